@@ -1,0 +1,18 @@
+-- Laws of a table of refusals: the first rule answers where it holds, and is passed over where it does not. Assumes nothing.
+use mathlib.Core.Path.{_≡_, refl}
+use mathlib.Core.Bool.{Bool, true, false}
+use mathlib.Core.List.{List, [], _∷_}
+use lib.IntN.{ℤ}
+use Rattle.base.specs.Rules.{Refusal, firstRule}
+
+pub rule-holds : (r : Refusal) (rs : List Refusal) (otherwise : ℤ) → r .when ≡ true → r .code ≡ firstRule (r ∷ rs) otherwise
+unfolding firstRule
+rule-holds r rs otherwise e = rw (e, firstRule)
+
+pub rule-passed : (r : Refusal) (rs : List Refusal) (otherwise : ℤ) → r .when ≡ false → firstRule rs otherwise ≡ firstRule (r ∷ rs) otherwise
+unfolding firstRule
+rule-passed r rs otherwise e = rw (e, firstRule)
+
+pub no-rule : (otherwise : ℤ) → otherwise ≡ firstRule [] otherwise
+unfolding firstRule
+no-rule otherwise = refl

@@ -1,0 +1,80 @@
+-- The cell record. Document 01, "Boot and cell records": "Cell record: 0 mark `TSC`, ..".
+use mathlib.Core.Bool.{Bool, true, false, not, _&&_, _||_}
+use mathlib.Core.List.{List, [], _∷_}
+use Prim.Native.Nat.{ℕ, _+_, _*_, _%_}
+use lib.Dec.{leb, ltb, eqb}
+use lib.ListN.{length, take}
+use lib.IntN.{ℤ, pos}
+use Rattle.base.specs.Lists.{all, any, pairwise, part, same}
+use Rattle.base.specs.Rules.{Refusal, firstRule, E2BIG, EINVAL}
+use Rattle.cpu_set.specs.CpuSet.{isEmpty}
+use Rattle.fields.specs.Fields.{u16, u64, zeros, isName, padded}
+use Rattle.regions.specs.declared.MemRegion.{MemRegion}
+use Rattle.regions.specs.Regions.{placed, flagsOk, commOk, comm, loadable, shared, clearOf, insidePhys, apart}
+use Rattle.region_table.specs.Tables.{maxRegions, tableOf}
+use Rattle.system_record.specs.declared.SystemConfig.{SystemConfig}
+use Rattle.system_record.specs.SystemRecord.{bootRegions}
+use Rattle.cell_record.specs.declared.CellConfig.{CellConfig}
+use Rattle.cell_record.specs.declared.CellRead.{CellRead}
+
+-- the values at their offsets: "6 u16 flags (bit 0 passive, others zero), 8 name, 40 u64 CPUs, 48 u16 region count 0..16, 56 regions"
+unfoldable pub cellOf : List ℕ → CellConfig
+cellOf r = record {
+  name = padded 32 (part 8 32 r);
+  passive = eqb (u16 6 r % 2) 1;
+  cpus = u64 40 r;
+  count = u16 48 r;
+  regions = tableOf 56 (u16 48 r) r;
+}
+
+-- "Length is 56 + 32n, at most 568"
+abbrev pub longest : ℕ
+longest = 568
+
+-- "mark `TSC`, 4 u16 version 1, 6 u16 flags (bit 0 passive, others zero)", "region count 0..16", "All unnamed bytes are zero",
+-- "Length is 56 + 32n"
+unfoldable pub cellForm : List ℕ → Bool
+cellForm r =
+    same (take 3 r) (0x54 ∷ 0x53 ∷ 0x43 ∷ [])
+    && zeros (part 3 1 r)
+    && eqb (u16 4 r) 1
+    && ltb (u16 6 r) 2
+    && leb (u16 48 r) maxRegions
+    && zeros (part 50 6 r)
+    && eqb (length r) (56 + 32 * u16 48 r)
+
+-- a cell's region: the rules of a region; "None (comm aside) overlaps hypervisor memory"; "A loadable or shared region lies inside a
+-- single boot region"
+unfoldable pub cellRegionOk : SystemConfig → MemRegion → Bool
+cellRegionOk boot r =
+    placed r
+    && flagsOk r
+    && commOk r
+    && clearOf (boot .hypervisor .start) (boot .hypervisor .size) r
+    && (not (loadable r || shared r) || any (insidePhys r) (bootRegions boot))
+
+-- the regions of a cell: those that the count names
+abbrev pub cellRegions : CellConfig → List MemRegion
+cellRegions c = take (c .count) (c .regions)
+
+-- the rules on the values: the name, "no CPU", the regions, and "Without one [a comm region] the cell must be passive"
+unfoldable pub cellValid : SystemConfig → CellConfig → Bool
+cellValid boot c =
+    isName (c .name)
+    && not (isEmpty (c .cpus))
+    && all (cellRegionOk boot) (cellRegions c)
+    && pairwise apart (cellRegions c)
+    && (any comm (cellRegions c) || c .passive)
+
+-- what the record itself makes Create answer: "-7 record longer than 568; -22 rule broken, no CPU"
+unfoldable pub cellAnswer : SystemConfig → List ℕ → ℤ
+cellAnswer boot r =
+    firstRule
+    (record { when = ltb longest (length r); code = E2BIG }
+    ∷ record { when = not (cellForm r && cellValid boot (cellOf r)); code = EINVAL }
+    ∷ [])
+    (pos 0)
+
+-- what reading a cell record gives: the answer, 0 for a record that keeps every rule, and the values as they stand
+unfoldable pub readCell : SystemConfig → List ℕ → CellRead
+readCell boot r = record { code = cellAnswer boot r; config = cellOf r }

@@ -1,0 +1,118 @@
+// Tables of regions: reading a record's regions, and the rules that speak of several.
+//
+// A table has MAX_REGIONS places and a count of those in use; a count past that means all of them.
+ghost use mathlib.Core.Path.{_≡_};
+ghost use mathlib.Core.Bool.{not};
+ghost use Prim.Native.Nat.{min};
+ghost use lib.ListN.{take, drop};
+ghost use Rattle.base.specs.Lists.{all, any, pairwise};
+ghost use Rattle.regions.specs.Regions.{regionOf, noRegion, comm, apart, insidePhys};
+ghost use Rattle.region_table.specs.Tables.{maxRegions, tableOf};
+use regions::MemRegion;
+
+// How many places a table has.
+pub const MAX_REGIONS: usize = 16;
+
+// What stands in a place that is not used.
+pub fn no_region() -> MemRegion
+    ensures { λ r. ⌜ r ≡ noRegion ⌝ }
+{
+    MemRegion {
+        phys: 0,
+        virt: 0,
+        size: 0,
+        flags: 0,
+    }
+}
+
+// The region that begins at an offset, on the part of the record from there on.
+pub fn region_at(s: &[u8], at: usize) -> MemRegion
+    ensures { λ r. ⌜ r ≡ regionOf (drop at (now (s .entry))) ⌝ }
+{
+    if at <= s.len() {
+        regions::region_of(&s[at..])
+    } else {
+        no_region()
+    }
+}
+
+// The table of the `count` regions of a record that begin at byte `base`.
+pub fn table_of(s: &[u8], base: u16, count: usize) -> [MemRegion; MAX_REGIONS]
+    ensures { λ r. ⌜ r ≡ tableOf base count (now (s .entry)) ⌝ }
+{
+    let n = used(count);
+    let mut table = [no_region(); MAX_REGIONS];
+    let mut i = 0;
+    while i < n {
+        table[i] = region_at(s, base as usize + 32 * i);
+        i += 1;
+    }
+    table
+}
+
+// How many places a count means.
+pub fn used(count: usize) -> usize
+    ensures { λ r. ⌜ r ≡ min count maxRegions ⌝ }
+{
+    if count < MAX_REGIONS {
+        count
+    } else {
+        MAX_REGIONS
+    }
+}
+
+// Whether some region is a communication region.
+pub fn has_comm(table: [MemRegion; MAX_REGIONS], count: usize) -> bool
+    ensures { λ r. ⌜ r ≡ any comm (take count table) ⌝ }
+{
+    let n = used(count);
+    let mut found = false;
+    let mut i = 0;
+    while i < n {
+        found = found | regions::is_comm(table[i]);
+        i += 1;
+    }
+    found
+}
+
+// Whether a region lies physically inside a single region of the table.
+pub fn inside_one(r: MemRegion, table: [MemRegion; MAX_REGIONS], count: usize) -> bool
+    ensures { λ q. ⌜ q ≡ any (insidePhys r) (take count table) ⌝ }
+{
+    let n = used(count);
+    let mut found = false;
+    let mut i = 0;
+    while i < n {
+        found = found | regions::inside_phys(r, table[i]);
+        i += 1;
+    }
+    found
+}
+
+// Whether the first `count` regions may each stand in one record with `r`.
+pub fn apart_from(table: [MemRegion; MAX_REGIONS], count: usize, r: MemRegion) -> bool
+    ensures { λ q. ⌜ q ≡ all (λ x. apart x r) (take count table) ⌝ }
+{
+    let n = used(count);
+    let mut ok = true;
+    let mut i = 0;
+    while i < n {
+        ok = ok & regions::apart(table[i], r);
+        i += 1;
+    }
+    ok
+}
+
+// Whether every two regions of the table may stand in one record.
+pub fn all_apart(table: [MemRegion; MAX_REGIONS], count: usize) -> bool
+    ensures { λ q. ⌜ q ≡ pairwise apart (take count table) ⌝ }
+{
+    let n = used(count);
+    let mut ok = true;
+    let mut i = 0;
+    while i < n {
+        ok = ok & apart_from(table, i, table[i]);
+        i += 1;
+    }
+    ok
+}
