@@ -7,10 +7,11 @@ use mathlib.Core.List.{List, [], _∷_, _++_, map}
 use Prim.Native.Nat.{ℕ, zero, suc, _+_, _-_, _<_, _≤_, min}
 use native.Mathlib.Nat.{add-zero, zero-add, add-suc, suc-add, not-suc-le-zero, le-of-suc-le-suc, le-of-eq}
 use native.Mathlib.Numerals.{add-one}
+use native.Mathlib.Decide.{ℕ-discrete}
 use native.Mathlib.Omega.{arith}
 use lib.Dec.{T, eqb, eqb→eq}
-use lib.ListN.{length, take, drop, getD, length-drop, drop-of-length-le}
-use lib.Seq.{take-suc, take-all, take-nil, ext-getD}
+use lib.ListN.{length, take, drop, getD, set, length-set, length-drop, drop-of-length-le}
+use lib.Seq.{take-suc, take-all, take-nil, ext-getD, getD-set-same, getD-set-other}
 use Rattle.base.specs.Lists.{all, any, pairwise, part, from, upTo, same}
 use Rattle.base.proofs.Tests.{and-intro, and-left, and-right, eq→eqb, equal-tests, is-true, is-false, holds, le-or-lt}
 
@@ -192,3 +193,61 @@ module _ {ℓ} {A : Type ℓ} (f : ℕ → A) where
   map-upTo n d xs l e =
       ext-getD d xs (map f (upTo n)) (l ∙ sym (length-upTo n))
       (λ i h. e i (subst (λ (m : ℕ). i < m) l h) ∙ sym (getD-upTo n i d (subst (λ (m : ℕ). i < m) l h)))
+
+-- ---- loops over the numbers below n
+
+from-more : (k n : ℕ) → from k (suc n) ≡ from k n ++ ((k + n) ∷ [])
+unfolding from
+from-more k zero = ap (λ (m : ℕ). m ∷ []) (sym (add-zero k))
+from-more k (suc n) = ap (λ (l : List ℕ). k ∷ l) (from-more (suc k) n ∙ ap (λ (m : ℕ). from (suc k) n ++ (m ∷ [])) (suc-add k n ∙ sym (add-suc k n)))
+
+upTo-more : (n : ℕ) → upTo (n + 1) ≡ upTo n ++ (n ∷ [])
+upTo-more n = ap upTo (add-one n) ∙ from-more 0 n ∙ ap (λ (m : ℕ). upTo n ++ (m ∷ [])) (zero-add n)
+
+pub all-upTo-turn : (p : ℕ → Bool) (i : ℕ) (flag t : Bool) → flag ≡ all p (upTo i) → t ≡ p i → (flag && t) ≡ all p (upTo (i + 1))
+unfolding all
+all-upTo-turn p i flag t e q =
+    rw (e, q, upTo-more i, all-append) (ap (λ (b : Bool). all p (upTo i) && b) (sym (and-true (p i))))
+
+pub all-upTo-none : (p : ℕ → Bool) → true ≡ all p (upTo 0)
+unfolding all from
+all-upTo-none p = refl
+
+pub any-upTo-none : (p : ℕ → Bool) → false ≡ any p (upTo 0)
+unfolding any from
+any-upTo-none p = refl
+
+pub any-upTo-turn : (p : ℕ → Bool) (i : ℕ) (flag t : Bool) → flag ≡ any p (upTo i) → t ≡ p i → (flag || t) ≡ any p (upTo (i + 1))
+unfolding any
+any-upTo-turn p i flag t e q =
+    rw (e, q, upTo-more i, any-append) (ap (λ (b : Bool). any p (upTo i) || b) (sym (or-false (p i))))
+
+-- ---- a loop that changes a list in place, one element a turn: f k is what it makes of the element at k
+
+module _ {ℓ} {A : Type ℓ} (f : ℕ → A → A) (d : A) (xs : List A) where
+  -- i turns have made `now` of xs
+  abbrev pub Mapped : ℕ → List A → Type ℓ
+  Mapped i now =
+      (length now ≡ length xs)
+      × ((k : ℕ) → k < i → getD now k d ≡ f k (getD xs k d))
+      × ((k : ℕ) → i ≤ k → getD now k d ≡ getD xs k d)
+
+  pub mapped-none : Mapped 0 xs
+  mapped-none = (refl, (λ k h. absurd (not-suc-le-zero h)), (λ k h. refl))
+
+  pub mapped-more : (i : ℕ) (now : List A) (v : A) → i < length xs → v ≡ f i (getD now i d) → Mapped i now → Mapped (i + 1) (set now i v)
+  mapped-more i now v h e m = (
+    length-set now i v ∙ m .0,
+    (λ k l. passed k l (ℕ-discrete k i)),
+    (λ k l. getD-set-other now i k v d (λ q. omega arith) ∙ m .2 k (omega arith)),
+  )
+    where
+      inside : i < length now
+      inside = subst (λ (n : ℕ). i < n) (sym (m .0)) h
+
+      passed : (k : ℕ) → k < i + 1 → Dec (k ≡ i) → getD (set now i v) k d ≡ f k (getD xs k d)
+      passed k l (yes q) = rw q (getD-set-same now i v d inside ∙ e ∙ ap (f i) (m .2 i (omega arith)))
+      passed k l (no n) = getD-set-other now i k v d n ∙ m .1 k (omega arith)
+
+  pub mapped-all : (n i : ℕ) (now : List A) → length xs ≡ n → n ≤ i → Mapped i now → now ≡ map (λ k. f k (getD xs k d)) (upTo n)
+  mapped-all n i now l h m = map-upTo (λ k. f k (getD xs k d)) n d now (m .0 ∙ l) (λ k q. m .1 k (omega arith))

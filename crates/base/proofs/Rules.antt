@@ -2,17 +2,16 @@
 use mathlib.Core.Path.{_≡_, refl}
 use mathlib.Core.Bool.{Bool, true, false}
 use mathlib.Core.List.{List, [], _∷_}
-use lib.IntN.{ℤ}
 use Rattle.base.specs.Rules.{Refusal, firstRule}
 
-pub rule-holds : (r : Refusal) (rs : List Refusal) (otherwise : ℤ) → r .when ≡ true → r .code ≡ firstRule (r ∷ rs) otherwise
+pub rule-holds : {A : Type 0} (r : Refusal A) (rs : List (Refusal A)) (otherwise : A) → r .when ≡ true → r .code ≡ firstRule (r ∷ rs) otherwise
 unfolding firstRule
 rule-holds r rs otherwise e = rw (e, firstRule)
 
-pub rule-passed : (r : Refusal) (rs : List Refusal) (otherwise : ℤ) → r .when ≡ false → firstRule rs otherwise ≡ firstRule (r ∷ rs) otherwise
+pub rule-passed : {A : Type 0} (r : Refusal A) (rs : List (Refusal A)) (otherwise : A) → r .when ≡ false → firstRule rs otherwise ≡ firstRule (r ∷ rs) otherwise
 unfolding firstRule
 rule-passed r rs otherwise e = rw (e, firstRule)
 
-pub no-rule : (otherwise : ℤ) → otherwise ≡ firstRule [] otherwise
+pub no-rule : {A : Type 0} (otherwise : A) → otherwise ≡ firstRule [] otherwise
 unfolding firstRule
 no-rule otherwise = refl

@@ -4,12 +4,12 @@ use mathlib.Core.Bool.{Bool, true, false}
 use mathlib.Core.List.{List, [], _∷_}
 use lib.IntN.{ℤ, negsuc}
 
-pub record Refusal : Type 0 where
+pub record Refusal (A : Type 0) : Type 0 where
   pub when : Bool
-  pub code : ℤ
+  pub code : A
 
 -- the code of the first rule that holds, and `otherwise` where none does
-unfoldable pub firstRule : List Refusal → ℤ → ℤ
+unfoldable pub firstRule : {A : Type 0} → List (Refusal A) → A → A
 firstRule [] otherwise = otherwise
 firstRule (r ∷ rs) otherwise = elim (r .when) [ true ↦ r .code | false ↦ firstRule rs otherwise ]
 

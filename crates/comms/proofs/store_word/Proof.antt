@@ -1,0 +1,23 @@
+-- `comms::store_word` meets its contract: by the word. Assumes nothing.
+use mathlib.Core.Path.{_≡_, refl, ap, sym, _∙_}
+use Prim.Native.Nat.{ℕ, zero, suc}
+use Rattle.machine_state.specs.declared.Comm.{Comm}
+use Rattle.comms.specs.Comms.{storeWord, withState}
+use Rattle.comms.proofs.Laws.{store-state}
+use Rattle.comms.proofs.store_word.Statement.{statement}
+use Rattle.comms.proofs.store_word.Tie as tie
+
+returns : tie.Need-returns
+unfolding storeWord
+returns c = rw (c .if1 .taken, storeWord)
+
+returns-2 : tie.Need-returns-2
+unfolding storeWord
+returns-2 c = rw (c .if2 .taken, storeWord)
+
+returns-3 : tie.Need-returns-3
+unfolding withState
+returns-3 c = store-state _ _ _ (c .before .if1 .left) (c .if2 .left)
+
+pub store-word-spec : {M : Type 1} → statement M
+store-word-spec = tie.close (tie.spec returns returns-2 returns-3)

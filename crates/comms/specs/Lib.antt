@@ -1,0 +1,2 @@
+pub mod Comms
+pub mod Choice
