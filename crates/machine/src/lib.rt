@@ -214,7 +214,7 @@ fn call_of(m: Machine, code: u32, cpu: u64, a1: u64, a2: u64, record: &[u8]) -> 
 }
 
 // The refusal of a code, or 0.
-fn call_refusal(code: u32, cell: usize) -> i32
+pub fn call_refusal(code: u32, cell: usize) -> i32
     ensures { λ r. ⌜ r ≡ callRefusal code cell ⌝ }
 {
     if 7 < code {

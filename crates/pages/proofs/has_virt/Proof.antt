@@ -1,0 +1,12 @@
+-- `pages::has_virt` meets its contract: it is the definition, with what `has_page` ensures. Assumes nothing.
+use Rattle.pages.specs.Pages.{hasVirt}
+use borrow.Author.Needs.{needs}
+use Rattle.pages.proofs.has_virt.Statement.{statement}
+use Rattle.pages.proofs.has_virt.Tie as tie
+
+returns : tie.Need-returns
+unfolding hasVirt
+returns c = cc
+
+pub has-virt-spec : {M : Type 1} → statement M
+has-virt-spec = tie.close (tie.spec (λ c κs. search needs) returns)

@@ -1,0 +1,447 @@
+-- A log in pieces. Feeding is by bytes, so that of two pieces it goes on where the first left; a piece without a line feed makes the line
+-- begun longer, and a line feed ends it. Only the first 1,401 bytes of a line matter, so what is kept of it answers as the whole. Assumes
+-- nothing.
+use mathlib.Core.Path.{_≡_, refl, sym, ap, ap₂, _∙_}
+use mathlib.Core.Bool.{Bool, true, false, _&&_}
+use mathlib.Core.Logic.{_⊎_, inl, inr}
+use mathlib.Core.List.{List, [], _∷_, _++_}
+use Prim.Native.Nat.{ℕ, zero, suc, _+_, _-_, _^_, _≤_, _<_, min}
+use native.Mathlib.Nat.{}
+use mathlib.Core.List.{append-nil, append-assoc}
+use native.Mathlib.Numerals.{add-one}
+use native.Mathlib.Omega.{arith}
+use lib.Dec.{eqb, ltb, leb}
+use lib.ListN.{set, length, take, drop, getD, drop-of-length-le, length-take, length-drop, length-append}
+use lib.Seq.{take-suc, drop-cons, take-take, take-all, take-length, take-add, take-append-add, length-take-le, getD-drop, take-at, drop-at, drop-append-add, drop-drop}
+use borrow.Author.Tests.{eq-eqb, ne-eqb, le-ltb, ltb-true, leb-true}
+use Rattle.base.proofs.Tests.{le-or-lt, holds, is-true, and-left, and-right}
+use Rattle.machine_state.specs.declared.Event.{Event}
+use Rattle.machine_state.specs.declared.Machine.{Machine}
+use Rattle.machine_state.specs.declared.Stepped.{Stepped}
+use Rattle.machine_state.specs.Machine.{cpuAt, commAt}
+use Rattle.machine.specs.Step.{stay, step, withTables}
+use Rattle.fast_path.specs.declared.Look.{Look}
+use Rattle.fast_path.specs.declared.Fast.{Fast}
+use Rattle.fast_path.specs.FastPath.{placeIn, lookOf, seenAt, fastOf, putBack}
+use Rattle.fast_path.proofs.Laws.{after, fast-is-step}
+use Rattle.lines.specs.Lines.{lineEvent, lineRecord}
+use Rattle.lines.proofs.Laws.{event-cut, record-cut, record-short}
+use Rattle.machine_state.specs.declared.Answer.{Answer}
+use Rattle.texts.specs.Texts.{answerLine, putLine, putCount}
+use Rattle.texts.proofs.Laws.{answer-short}
+use Rattle.replay_log.specs.Replay.{lineFeed, lastLine, linesFrom, linesOf, stepLine, answersTo}
+use Rattle.replay_log.specs.Feed.{Going, ended, longer, feedByte, feed, endOf, finished, lineLength, keptBytes}
+
+-- one turn of the search for a line feed, and its two ends
+module _ (log : List ℕ) (i : ℕ) where
+  pub length-more : i < length log → (getD log i 0 ≡ lineFeed → ⊥) → i + lineLength (drop i log) ≡ (i + 1) + lineLength (drop (i + 1) log)
+  unfolding lineLength
+  length-more h n = rw (add-one, drop-cons log i 0, ne-eqb (getD log i 0) lineFeed n, lineLength) (omega arith)
+
+  pub length-stop : i < length log → getD log i 0 ≡ lineFeed → i ≡ i + lineLength (drop i log)
+  unfolding lineLength
+  length-stop h e = rw (drop-cons log i 0, eq-eqb (getD log i 0) lineFeed e, lineLength) (omega arith)
+
+  pub length-end : length log ≤ i → i ≡ i + lineLength (drop i log)
+  unfolding lineLength
+  length-end h = rw (drop-of-length-le log h) (omega arith)
+
+pub length-fits : (log : List ℕ) → lineLength log ≤ length log
+unfolding lineLength
+length-fits [] = omega arith
+length-fits (b ∷ bs) = by-test (eqb b lineFeed) (length-fits bs)
+  where
+    by-test : (t : Bool) → lineLength bs ≤ length bs → elim t as (λ x. ℕ) [ true ↦ 0 | false ↦ suc (lineLength bs) ] ≤ suc (length bs)
+    by-test true h = omega arith
+    by-test false h = omega arith
+
+-- bytes put behind a line as far as they fit
+take-min : (k : ℕ) (s : List ℕ) → take (min k (length s)) s ≡ take k s
+take-min k s = by-size (le-or-lt k (length s))
+  where
+    by-size : (k ≤ length s) ⊎ (length s < k) → take (min k (length s)) s ≡ take k s
+    by-size (inl h) = let e : min k (length s) ≡ k = omega arith in ap (λ (n : ℕ). take n s) e
+    by-size (inr h) =
+        let e : min k (length s) ≡ length s = omega arith in
+        let low : length s ≤ k = omega arith in
+        ap (λ (n : ℕ). take n s) e ∙ take-length s ∙ sym (take-all k s low)
+
+pub min-fits : (size at n given : ℕ) → at ≤ size → n ≡ min (size - at) given → (at + n ≤ size) × (n ≤ given)
+min-fits size at n given h e = (omega arith, omega arith)
+
+pub appended : (d : List ℕ) (at n : ℕ) (s : List ℕ) → at ≤ length d → n ≡ min (length d - at) (length s)
+    → take at d ++ take n s ≡ take (length d) (take at d ++ s)
+appended d at n s h e =
+    let room : at + (length d - at) ≡ length d = omega arith in
+    ap (λ (k : ℕ). take at d ++ take k s) e ∙ ap (λ (r : List ℕ). take at d ++ r) (take-min (length d - at) s)
+    ∙ sym (take-append-add (take at d) s (length d - at))
+    ∙ ap (λ (k : ℕ). take k (take at d ++ s)) (ap (λ (k : ℕ). k + (length d - at)) (length-take-le at d h) ∙ room)
+
+-- two pieces are fed one after the other
+pub feed-append : (xs ys : List ℕ) (g : Going) → feed (xs ++ ys) g ≡ feed ys (feed xs g)
+unfolding feed
+feed-append [] ys g = refl
+feed-append (x ∷ xs) ys g = feed-append xs ys (feedByte x g)
+
+-- of bytes that are cut twice the second cut decides
+cut-twice : (k : ℕ) (xs ys : List ℕ) → take k (take k xs ++ ys) ≡ take k (xs ++ ys)
+cut-twice zero xs ys = refl
+cut-twice (suc k) [] ys = refl
+cut-twice (suc k) (x ∷ xs) ys = ap (λ (r : List ℕ). x ∷ r) (cut-twice k xs ys)
+
+-- one byte, by whether it is a line feed
+module _ (b : ℕ) (bs : List ℕ) where
+  length-feed : eqb b lineFeed ≡ true → lineLength (b ∷ bs) ≡ 0
+  unfolding lineLength
+  length-feed q = rw (q, lineLength)
+
+  length-other : eqb b lineFeed ≡ false → lineLength (b ∷ bs) ≡ suc (lineLength bs)
+  unfolding lineLength
+  length-other q = rw (q, lineLength)
+
+pub byte-feed : (b : ℕ) (g : Going) → eqb b lineFeed ≡ true → feedByte b g ≡ ended g
+unfolding feedByte
+byte-feed b g q = rw (q, feedByte)
+
+pub byte-other : (b : ℕ) (g : Going) → eqb b lineFeed ≡ false → feedByte b g ≡ longer (b ∷ []) g
+unfolding feedByte
+byte-other b g q = rw (q, feedByte)
+
+-- a line made longer twice
+pub longer-twice : (bs cs : List ℕ) (g : Going) → longer cs (longer bs g) ≡ longer (bs ++ cs) g
+unfolding longer
+longer-twice bs cs g = λ i. record {
+  machine = g .machine;
+  begun = (cut-twice keptBytes (g .begun ++ bs) cs ∙ ap (take keptBytes) (append-assoc (g .begun) bs cs)) i;
+  text = g .text;
+}
+
+pub longer-fits : (bs : List ℕ) (g : Going) → length (longer bs g .begun) ≤ keptBytes
+unfolding longer
+longer-fits bs g = let n = length-take keptBytes (g .begun ++ bs) in omega arith
+
+-- bytes without a line feed make the line longer
+pub feed-plain : (bs : List ℕ) (g : Going) → length (g .begun) ≤ keptBytes → lineLength bs ≡ length bs → feed bs g ≡ longer bs g
+unfolding feed longer
+feed-plain [] g h e = λ i. record {
+  machine = g .machine;
+  begun = sym (ap (take keptBytes) (append-nil (g .begun)) ∙ take-all keptBytes (g .begun) h) i;
+  text = g .text;
+}
+feed-plain (b ∷ bs) g h e = by-test (eqb b lineFeed) refl (feed-plain bs (longer (b ∷ []) g) (longer-fits (b ∷ []) g))
+  where
+    by-test : (t : Bool) → eqb b lineFeed ≡ t → (lineLength bs ≡ length bs → feed bs (longer (b ∷ []) g) ≡ longer bs (longer (b ∷ []) g))
+        → feed bs (feedByte b g) ≡ longer (b ∷ bs) g
+    by-test true q again = let none = sym (length-feed b bs q) ∙ e in absurd (omega arith)
+    by-test false q again =
+        let rest = sym (length-other b bs q) ∙ e in
+        ap (feed bs) (byte-other b g q) ∙ again (omega arith) ∙ longer-twice (b ∷ []) bs g
+
+-- the bytes before the first line feed have none, and it stands behind them
+pub before-feed : (log : List ℕ) → lineLength (take (lineLength log) log) ≡ length (take (lineLength log) log)
+unfolding lineLength
+before-feed [] = refl
+before-feed (b ∷ bs) = by-test (eqb b lineFeed) refl (before-feed bs)
+  where
+    by-test : (t : Bool) → eqb b lineFeed ≡ t → lineLength (take (lineLength bs) bs) ≡ length (take (lineLength bs) bs)
+        → lineLength (take (lineLength (b ∷ bs)) (b ∷ bs)) ≡ length (take (lineLength (b ∷ bs)) (b ∷ bs))
+    by-test true q h = ap (λ (n : ℕ). lineLength (take n (b ∷ bs))) (length-feed b bs q) ∙ sym (ap (λ (n : ℕ). length (take n (b ∷ bs))) (length-feed b bs q))
+    by-test false q h =
+        ap (λ (n : ℕ). lineLength (take n (b ∷ bs))) (length-other b bs q) ∙ length-other b (take (lineLength bs) bs) q ∙ ap suc h
+        ∙ sym (ap (λ (n : ℕ). length (take n (b ∷ bs))) (length-other b bs q))
+
+pub at-feed : (log : List ℕ) → lineLength log < length log → eqb (getD log (lineLength log) 0) lineFeed ≡ true
+at-feed [] h = absurd (omega arith)
+at-feed (b ∷ bs) h = by-test (eqb b lineFeed) refl (at-feed bs)
+  where
+    by-test : (t : Bool) → eqb b lineFeed ≡ t → (lineLength bs < length bs → eqb (getD bs (lineLength bs) 0) lineFeed ≡ true)
+        → eqb (getD (b ∷ bs) (lineLength (b ∷ bs)) 0) lineFeed ≡ true
+    by-test true q again = ap (λ (n : ℕ). eqb (getD (b ∷ bs) n 0) lineFeed) (length-feed b bs q) ∙ q
+    by-test false q again =
+        let e = length-other b bs q in
+        ap (λ (n : ℕ). eqb (getD (b ∷ bs) n 0) lineFeed) e ∙ again (omega arith)
+
+-- a turn of the run: the line that is begun goes on from `at` to `end`
+module _ (log : List ℕ) (at end : ℕ) (start g : Going) (fed : feed (take at log) start ≡ g) (short : length (g .begun) ≤ keptBytes)
+    (isEnd : end ≡ at + lineLength (drop at log)) where
+  -- to the end of the piece
+  pub turn-open : feed (take end log) start ≡ longer (take (end - at) (drop at log)) g
+  turn-open =
+      let size : end - at ≡ lineLength (drop at log) = omega arith in
+      ap (λ (n : ℕ). feed (take n log) start) isEnd ∙ ap (λ (l : List ℕ). feed l start) (take-add at (lineLength (drop at log)) log)
+      ∙ feed-append (take at log) (take (lineLength (drop at log)) (drop at log)) start
+      ∙ ap (feed (take (lineLength (drop at log)) (drop at log))) fed
+      ∙ feed-plain (take (lineLength (drop at log)) (drop at log)) g short (before-feed (drop at log))
+      ∙ ap (λ (n : ℕ). longer (take n (drop at log)) g) (sym size)
+
+  -- to a line feed
+  pub turn-ended : end < length log → feed (take (end + 1) log) start ≡ ended (longer (take (end - at) (drop at log)) g)
+  unfolding feed
+  turn-ended h =
+      let inside : lineLength (drop at log) < length (drop at log) = (let n = length-drop at log in omega arith) in
+      let here : eqb (getD log end 0) lineFeed ≡ true =
+      ap (λ (n : ℕ). eqb (getD log n 0) lineFeed) isEnd ∙ ap (λ (x : ℕ). eqb x lineFeed) (sym (getD-drop at log (lineLength (drop at log)) 0))
+      ∙ at-feed (drop at log) inside in
+      ap (λ (n : ℕ). feed (take n log) start) (add-one end) ∙ ap (λ (l : List ℕ). feed l start) (take-suc log end 0 h)
+      ∙ feed-append (take end log) (getD log end 0 ∷ []) start ∙ ap (feedByte (getD log end 0)) turn-open
+      ∙ byte-feed (getD log end 0) (longer (take (end - at) (drop at log)) g) here
+
+-- a line that is cut answers as the whole
+line-cut : (line : List ℕ) (m : Machine) → stepLine (take keptBytes line) m ≡ stepLine line m
+unfolding stepLine
+line-cut line m = ap₂ (λ (e : Event) (bytes : List ℕ). step e bytes m) (event-cut line) (record-cut line)
+
+lines-feed : (b : ℕ) (bs begun : List ℕ) → eqb b lineFeed ≡ true → linesFrom begun (b ∷ bs) ≡ begun ∷ linesFrom [] bs
+unfolding linesFrom
+lines-feed b bs begun q = rw (q, linesFrom)
+
+lines-other : (b : ℕ) (bs begun : List ℕ) → eqb b lineFeed ≡ false → linesFrom begun (b ∷ bs) ≡ linesFrom (begun ++ (b ∷ [])) bs
+unfolding linesFrom
+lines-other b bs begun q = rw (q, linesFrom)
+
+-- the text written at the end of a log, from a line that is begun: that of the lines
+text-from : (log begun : List ℕ) (m : Machine) (text : List ℕ)
+    → finished (feed log (record { machine = m; begun = take keptBytes begun; text = text })) ≡ text ++ answersTo (linesFrom begun log) m
+unfolding feed linesFrom lastLine answersTo endOf ended longer
+text-from [] [] m text = sym (append-nil text)
+text-from [] (x ∷ xs) m text =
+    ap (λ (s : Stepped). text ++ answerLine (s .answer)) (line-cut (x ∷ xs) m)
+    ∙ sym (ap (λ (t : List ℕ). text ++ t) (append-nil (answerLine (stepLine (x ∷ xs) m .answer))))
+text-from (b ∷ bs) begun m text = by-test (eqb b lineFeed) refl (text-from bs)
+  where
+    g : Going
+    g = record { machine = m; begun = take keptBytes begun; text = text }
+
+    by-test : (t : Bool) → eqb b lineFeed ≡ t
+        → ((begun : List ℕ) (m : Machine) (text : List ℕ)
+        → finished (feed bs (record { machine = m; begun = take keptBytes begun; text = text })) ≡ text ++ answersTo (linesFrom begun bs) m)
+        → finished (feed bs (feedByte b g)) ≡ text ++ answersTo (linesFrom begun (b ∷ bs)) m
+    by-test true q again =
+        let s = stepLine begun m in
+        let first = answerLine (s .answer) in
+        ap (λ (h : Going). finished (feed bs h)) (byte-feed b g q)
+        ∙ ap (λ (s : Stepped). finished (feed bs (record { machine = s .machine; begun = []; text = text ++ answerLine (s .answer) }))) (line-cut begun m)
+        ∙ again [] (s .machine) (text ++ first) ∙ append-assoc text first (answersTo (linesFrom [] bs) (s .machine))
+        ∙ ap (λ (ls : List (List ℕ)). text ++ answersTo ls m) (sym (lines-feed b bs begun q))
+    by-test false q again =
+        ap (λ (h : Going). finished (feed bs h)) (byte-other b g q)
+        ∙ ap (λ (l : List ℕ). finished (feed bs (record { machine = m; begun = l; text = text }))) (cut-twice keptBytes begun (b ∷ []))
+        ∙ again (begun ++ (b ∷ [])) m text ∙ ap (λ (ls : List (List ℕ)). text ++ answersTo ls m) (sym (lines-other b bs begun q))
+
+-- however a log is cut, the text that a run writes is that of the log's lines
+pub fed-is-replay : (log : List ℕ) (m : Machine)
+    → finished (feed log (record { machine = m; begun = []; text = [] })) ≡ answersTo (linesOf log) m
+fed-is-replay log m = text-from log [] m []
+
+-- a record put to the start of a buffer of 700 bytes: all of it fits
+module _ (line buffer after : List ℕ) (n : ℕ) (size : length buffer ≡ 700) (isCount : n ≡ min (length (lineRecord line)) (length buffer))
+    (isAfter : after ≡ take n (lineRecord line) ++ drop n buffer) where
+  whole : n ≡ length (lineRecord line)
+  whole = let short = record-short line in omega arith
+
+  pub record-inside : n ≤ length buffer
+  record-inside = let short = record-short line in omega arith
+
+  front : take n (lineRecord line) ≡ lineRecord line
+  front = take-all n (lineRecord line) (let e = whole in omega arith)
+
+  pub record-size : length after ≡ 700
+  record-size =
+      let e = whole in
+      let low = record-inside in
+      ap length (isAfter ∙ ap (λ (r : List ℕ). r ++ drop n buffer) front) ∙ length-append (lineRecord line) (drop n buffer)
+      ∙ sum (length (lineRecord line)) n (length buffer) (length (drop n buffer)) e (length-drop n buffer) low ∙ size
+    where
+      sum : (a n size rest : ℕ) → n ≡ a → rest ≡ size - n → n ≤ size → a + rest ≡ size
+      sum a n size rest e d h = omega arith
+
+  pub record-read : take n after ≡ lineRecord line
+  record-read =
+      ap (take n) (isAfter ∙ ap (λ (r : List ℕ). r ++ drop n buffer) front) ∙ take-at (lineRecord line) (drop n buffer) n (sym whole)
+
+-- an answer's line put behind what is written, where there is room for it
+module _ (answer : Answer) (out after : List ℕ) (w n : ℕ) (isRoom : 32 ≤ length out - w)
+    (isCount : n ≡ putCount 32 (answerLine answer) (take (length out - w) (drop w out)))
+    (isAfter : after ≡ putLine 32 (answerLine answer) (take (length out - w) (drop w out))) where
+  -- the whole rest of the buffer is lent
+  lent : take (length out - w) (drop w out) ≡ drop w out
+  lent = take-all (length out - w) (drop w out) (let e = length-drop w out in omega arith)
+
+  enough : ltb (length (drop w out)) 32 ≡ false
+  enough = le-ltb (length (drop w out)) 32 (let e = length-drop w out in omega arith)
+
+  pub put-count : n ≡ length (answerLine answer)
+  unfolding putCount
+  put-count = isCount ∙ ap (putCount 32 (answerLine answer)) lent ∙ rw (enough, putCount)
+
+  pub put-after : after ≡ answerLine answer ++ drop (length (answerLine answer)) (drop w out)
+  unfolding putLine
+  put-after = isAfter ∙ ap (putLine 32 (answerLine answer)) lent ∙ rw (enough, putLine)
+
+  -- the buffer after the loan
+  module _ (out′ : List ℕ) (isBack : out′ ≡ take w out ++ (after ++ drop (length out - w) (drop w out))) where
+    rest : List ℕ
+    rest = drop (length (answerLine answer)) (drop w out)
+
+    back : out′ ≡ take w out ++ (answerLine answer ++ rest)
+    unfolding rest
+    back =
+        let all : length (drop w out) ≤ length out - w = (let e = length-drop w out in omega arith) in
+        isBack ∙ ap (λ (r : List ℕ). take w out ++ (after ++ r)) (drop-of-length-le (drop w out) all)
+        ∙ ap (λ (r : List ℕ). take w out ++ r) (append-nil after ∙ put-after)
+
+    pub put-inside : w + n ≤ length out
+    put-inside =
+        let e = put-count in
+        let h = answer-short answer in
+        omega arith
+
+    low : w ≤ length out
+    low = let e = put-inside in omega arith
+
+    pub put-text : take (w + n) out′ ≡ take w out ++ answerLine answer
+    put-text =
+        ap (take (w + n)) back ∙ ap (λ (k : ℕ). take (k + n) (take w out ++ (answerLine answer ++ rest))) (sym (length-take-le w out low))
+        ∙ take-append-add (take w out) (answerLine answer ++ rest) n
+        ∙ ap (λ (r : List ℕ). take w out ++ r) (take-at (answerLine answer) rest n (sym put-count))
+
+    pub put-rest : drop (w + n) out′ ≡ drop (w + n) out
+    unfolding rest
+    put-rest =
+        ap (drop (w + n)) back ∙ ap (λ (k : ℕ). drop (k + n) (take w out ++ (answerLine answer ++ rest))) (sym (length-take-le w out low))
+        ∙ drop-append-add (take w out) (answerLine answer ++ rest) n ∙ drop-at (answerLine answer) rest n (sym put-count)
+        ∙ drop-drop (length (answerLine answer)) w out ∙ ap (λ (k : ℕ). drop (w + k) out) (sym put-count)
+
+    pub put-size : length out′ ≡ length out
+    unfolding rest
+    put-size =
+        let sum = length-append (take w out) (answerLine answer ++ rest) in
+        let inner = length-append (answerLine answer) rest in
+        let first = length-take-le w out low in
+        let last = length-drop (length (answerLine answer)) (drop w out) in
+        let before = length-drop w out in
+        let inside = put-inside in
+        let count = put-count in
+        ap length back ∙ sum
+        ∙ sizes (length (take w out)) (length (answerLine answer ++ rest)) (length (answerLine answer)) (length rest) (length (drop w out)) (length out) n first inner last before inside count
+      where
+        sizes : (a b c d f total n : ℕ) → a ≡ w → b ≡ c + d → d ≡ f - c → f ≡ total - w → w + n ≤ total → n ≡ c → a + b ≡ total
+        sizes a b c d f total n ea eb ed ef h en = omega arith
+
+-- the test before a turn
+pub may-go : (at given w room : ℕ) (r : Bool) → r ≡ (ltb at given && leb 32 (room - w)) → r ≡ true → (at < given) × (32 ≤ room - w)
+may-go at given w room r e t =
+    let both = holds (sym e ∙ t) in (
+      ltb-true at given (is-true _ (and-left (ltb at given) (leb 32 (room - w)) both)),
+      leb-true 32 (room - w) (is-true _ (and-right (ltb at given) (leb 32 (room - w)) both)),
+    )
+
+-- the first bytes of a line, where the count was cut to what is kept
+pub kept-bytes : (line : List ℕ) (len n : ℕ) → length line ≡ keptBytes → n ≡ min len keptBytes → take n line ≡ take len line
+kept-bytes line len n size e = ap (λ (k : ℕ). take k line) (e ∙ ap (min len) (sym size)) ∙ take-min len line
+
+-- what is kept of a line is short
+pub begun-short : (line : List ℕ) (len : ℕ) → len ≤ keptBytes → length (take len line) ≤ keptBytes
+begun-short line len h = let e = length-take len line in omega arith
+
+-- every turn takes some of the log
+pub less-end : (given at end : ℕ) → at < given → given ≤ end → given - end < given - at
+less-end given at end h e = omega arith
+
+pub less-turn : (given at end more : ℕ) → end ≡ at + more → end < given → given - (end + 1) < given - at
+less-turn given at end more e h = omega arith
+
+pub next-inside : (end given : ℕ) → end < given → end + 1 ≤ given
+next-inside end given h = omega arith
+
+pub sum-fits : (w n size : ℕ) → w + n ≤ size → size < 2 ^ 64 → w + n < 2 ^ 64
+sum-fits w n size h f = omega arith
+
+-- a part from the start
+pub whole-part : (n : ℕ) (l : List ℕ) → take (n - 0) l ≡ take n l
+whole-part n l = let e : n - 0 ≡ n = omega arith in ap (λ (k : ℕ). take k l) e
+
+-- what lies behind a place lies behind a later one
+pub drop-further : (out out₀ : List ℕ) (w n : ℕ) → drop w out ≡ drop w out₀ → drop (w + n) out ≡ drop (w + n) out₀
+drop-further out out₀ w n e = sym (drop-drop n w out) ∙ ap (drop n) e ∙ drop-drop n w out₀
+
+-- a run's place, in its parts
+abbrev pub going : Machine → List ℕ → List ℕ → Going
+going m begun text = record { machine = m; begun = begun; text = text }
+
+-- a turn of the run, on its parts: the bytes up to `end` were put behind those kept
+module _ (log : List ℕ) (at end : ℕ) (start : Going) (m : Machine) (begun text : List ℕ) (fed : feed (take at log) start ≡ going m begun text)
+    (short : length begun ≤ keptBytes) (isEnd : end ≡ at + lineLength (drop at log)) (line : List ℕ)
+    (isLine : line ≡ take keptBytes (begun ++ take (end - at) (drop at log))) where
+  -- the piece ends before the line
+  pub goes-open : feed (take end log) start ≡ going m line text
+  unfolding longer
+  goes-open = turn-open log at end start (going m begun text) fed short isEnd ∙ ap (λ (l : List ℕ). going m l text) (sym isLine)
+
+  -- the line ends, and its answer is written
+  pub goes-on-ended : end < length log → (answer : Answer) (next : Machine) (text′ : List ℕ)
+      → stay answer next ≡ step (lineEvent line) (lineRecord line) m → text′ ≡ text ++ answerLine answer
+      → feed (take (end + 1) log) start ≡ going next [] text′
+  unfolding longer ended stepLine stay
+  goes-on-ended h answer next text′ isStep isText =
+      turn-ended log at end start (going m begun text) fed short isEnd h ∙ ap (λ (l : List ℕ). ended (going m l text)) (sym isLine)
+      ∙ ap (λ (s : Stepped). going (s .machine) [] (text ++ answerLine (s .answer))) (sym isStep) ∙ ap (going next []) (sym isText)
+
+-- what the fast path leaves, where it is taken, is the step
+pub fast-turn : (e : Event) (bytes : List ℕ) (m : Machine) (look : Look) (home : ℕ) (f : Fast) → length (m .cpus) ≡ 64 → look ≡ lookOf e (m .waiting)
+    → home ≡ placeIn 16 (cpuAt (m .cpus) (look .cpu) .cell)
+    → f ≡ fastOf e (record {
+      power = m .power;
+      boot = m .boot .cpus;
+      pages = m .boot .pool;
+      remap = m .boot .remap;
+      pool = m .pool;
+      used = m .used;
+      waiting = m .waiting;
+      cpu = cpuAt (m .cpus) (look .cpu);
+      words = commAt (m .comms) home;
+      other = cpuAt (m .cpus) (look .other);
+      asked = commAt (m .comms) (look .cell);
+    })
+    → f .taken ≡ true
+    → stay (f .answer) (withTables (set (m .comms) home (f .words)) (set (m .cpus) (look .cpu) (f .cpu)) m) ≡ step e bytes m
+unfolding seenAt putBack
+fast-turn e bytes m look home f size isLook isHome isFast t =
+    let l = lookOf e (m .waiting) in
+    let seen : _ ≡ seenAt look m = λ i. record {
+      power = m .power;
+      boot = m .boot .cpus;
+      pages = m .boot .pool;
+      remap = m .boot .remap;
+      pool = m .pool;
+      used = m .used;
+      waiting = m .waiting;
+      cpu = cpuAt (m .cpus) (look .cpu);
+      words = commAt (m .comms) (isHome i);
+      other = cpuAt (m .cpus) (look .other);
+      asked = commAt (m .comms) (look .cell);
+    } in
+    let same : f ≡ fastOf e (seenAt l m) = isFast ∙ ap (fastOf e) seen ∙ ap (λ (k : Look). fastOf e (seenAt k m)) isLook in
+    let place : home ≡ placeIn 16 (cpuAt (m .cpus) (l .cpu) .cell) = isHome ∙ ap (λ (k : Look). placeIn 16 (cpuAt (m .cpus) (k .cpu) .cell)) isLook in
+    let left : stay (f .answer) (withTables (set (m .comms) home (f .words)) (set (m .cpus) (look .cpu) (f .cpu)) m) ≡ after l m (fastOf e (seenAt l m)) = λ i. stay (same i .answer) (withTables (set (m .comms) (place i) (same i .words)) (set (m .cpus) (isLook i .cpu) (same i .cpu)) m) in
+    left ∙ fast-is-step m size e bytes (sym (ap (λ (g : Fast). g .taken) same) ∙ t)
+
+-- the end of a log: no line, or one more
+pub end-none : (m : Machine) (begun : List ℕ) → begun ≡ [] → finished (going m begun []) ≡ []
+unfolding endOf
+end-none m begun e = ap (λ (b : List ℕ). finished (going m b [])) e
+
+pub end-some : (m : Machine) (begun : List ℕ) → 0 < length begun → (s : Stepped) → s ≡ step (lineEvent begun) (lineRecord begun) m
+    → finished (going m begun []) ≡ answerLine (s .answer)
+unfolding endOf ended stepLine
+end-some m [] h s e = absurd (omega arith)
+end-some m (b ∷ bs) h s e = ap (λ (t : Stepped). answerLine (t .answer)) (sym e)
+
+-- nothing put is nothing changed
+pub put-none : (out : List ℕ) → (0 ≡ putCount 32 [] out) × (out ≡ putLine 32 [] out)
+unfolding putCount putLine
+put-none out = by-room (ltb (length out) 32) refl
+  where
+    by-room : (t : Bool) → ltb (length out) 32 ≡ t → (0 ≡ putCount 32 [] out) × (out ≡ putLine 32 [] out)
+    by-room true e = (rw (e, putCount), rw (e, putLine))
+    by-room false e = (rw (e, putCount), rw (e, putLine))

@@ -1,0 +1,184 @@
+// A run over a log: lines to events, events to answers, answers to text.
+//
+// The log may come in pieces, cut anywhere. A run keeps the machine and the bytes of a line that
+// has no line feed yet, at most 1,401 of them.
+ghost use mathlib.Core.Path.{_≡_};
+ghost use mathlib.Core.Bool.{false, _&&_};
+ghost use mathlib.Core.List.{[], _++_};
+ghost use Prim.Native.Nat.{_+_, _-_, _≤_, min};
+ghost use lib.Dec.{leb, ltb};
+ghost use lib.ListN.{length, take, drop};
+ghost use Rattle.texts.specs.Texts.{putLine, putCount};
+ghost use Rattle.replay_log.specs.Feed.{feed, finished, lineLength, goingOf};
+use fast_path::Seen;
+use machine_state::Machine;
+use texts::MAX_TEXT;
+
+// The longest record that a line can bring.
+const RECORD: usize = 700;
+
+// How many bytes of a line are kept: one more than a line may have.
+pub const KEPT: usize = 1401;
+
+// What a run keeps between two pieces of a log: the machine, and the first `len` bytes of `line`.
+pub struct Replay {
+    pub machine: Machine,
+    pub line: [u8; KEPT],
+    pub len: usize,
+}
+
+// A run after a piece: how much of the piece was taken, and how much of the output written.
+pub struct Ran {
+    pub replay: Replay,
+    pub taken: usize,
+    pub written: usize,
+}
+
+// The index of the first line feed from `at` on, or the length.
+fn line_end(log: &[u8], at: usize) -> usize
+    requires { ⌜ at ≤ length (now log) ⌝ }
+    ensures { λ r. ⌜ r ≡ at + lineLength (drop at (now (log .entry))) ⌝ }
+    ensures { λ r. ⌜ r ≤ length (now (log .entry)) ⌝ }
+{
+    let mut i = at;
+    while i < log.len() {
+        if log[i] == b'\n' {
+            return i;
+        }
+        i += 1;
+    }
+    i
+}
+
+// The smaller of two numbers.
+fn smaller(a: usize, b: usize) -> usize
+    ensures { λ r. ⌜ r ≡ min a b ⌝ }
+{
+    if a <= b { a } else { b }
+}
+
+// Puts bytes behind the first `len` of a line, as far as they fit, and gives the new length.
+fn append(line: &mut [u8], len: usize, bytes: &[u8]) -> usize
+    requires { ⌜ len ≤ length (now line) ⌝ }
+    ensures { λ r. ⌜ take r (now (line .exit)) ≡ take (length (now (line .entry))) (take len (now (line .entry)) ++ now (bytes .entry)) ⌝ }
+    ensures { λ r. ⌜ r ≤ length (now (line .entry)) ⌝ }
+    ensures { λ r. ⌜ length (now (line .exit)) ≡ length (now (line .entry)) ⌝ }
+{
+    let n = smaller(line.len() - len, bytes.len());
+    let mut i = 0;
+    while i < n {
+        line[len + i] = bytes[i];
+        i += 1;
+    }
+    len + n
+}
+
+// A run that has read nothing yet.
+pub fn start(machine: Machine) -> Replay
+    ensures { λ r. ⌜ goingOf r [] ≡ record { machine = machine; begun = []; text = [] } ⌝ }
+{
+    Replay {
+        machine,
+        line: [0; KEPT],
+        len: 0,
+    }
+}
+
+// Whether a turn may begin: bytes of the log are left, and room for a line of the output.
+fn goes_on(at: usize, given: usize, written: usize, room: usize) -> bool
+    requires { ⌜ written ≤ room ⌝ }
+    ensures { λ r. ⌜ r ≡ (ltb at given && leb 32 (room - written)) ⌝ }
+{
+    (at < given) & (MAX_TEXT <= room - written)
+}
+
+// Runs over a piece of a log and writes the answers to `out`, as long as a line fits there. Gives
+// the run to go on with, how much of the piece was taken, and how much of `out` written.
+pub fn run(kept: Replay, log: &[u8], out: &mut [u8]) -> Ran
+    ensures { λ r. ⌜ feed (take (r .taken) (now (log .entry))) (goingOf kept []) ≡ goingOf (r .replay) (take (r .written) (now (out .exit))) ⌝ }
+    ensures { λ r. ⌜ drop (r .written) (now (out .exit)) ≡ drop (r .written) (now (out .entry)) ⌝ }
+    ensures { λ r. ⌜ (r .taken ≤ length (now (log .entry))) × (r .written ≤ length (now (out .entry))) ⌝ }
+    ensures { λ r. ⌜ (ltb (r .taken) (length (now (log .entry))) && leb 32 (length (now (out .entry)) - r .written)) ≡ false ⌝ }
+{
+    let mut m = kept.machine;
+    let mut line = kept.line;
+    let mut len = smaller(kept.len, KEPT);
+    let mut record = [0u8; RECORD];
+    let mut at = 0;
+    let mut written = 0;
+    while goes_on(at, log.len(), written, out.len()) {
+        let end = line_end(log, at);
+        len = append(&mut line, len, &log[at..end]);
+        at = end;
+        if end < log.len() {
+            at = end + 1;
+            let e = lines::event_of(&line[0..len]);
+            let power = m.power;
+            let waiting = m.waiting;
+            let look = fast_path::look_at(e, waiting);
+            let own = look.cpu;
+            let other = look.other;
+            let cell = look.cell;
+            let p = m.cpus[own];
+            let home = fast_path::cell_place(p.cell as u64);
+            let seen = Seen {
+                power,
+                boot: m.boot.cpus,
+                pages: m.boot.pool,
+                remap: m.boot.remap,
+                pool: m.pool,
+                used: m.used,
+                waiting,
+                cpu: p,
+                words: m.comms[home],
+                other: m.cpus[other],
+                asked: m.comms[cell],
+            };
+            let fast = fast_path::fast_step(e, seen);
+            if fast.taken {
+                let after = fast.cpu;
+                let words = fast.words;
+                let answer = fast.answer;
+                m.cpus[own] = after;
+                m.comms[home] = words;
+                written += texts::put_answer(answer, &mut out[written..]);
+            } else {
+                let n = lines::record_of(&line[0..len], &mut record);
+                let s = machine::step(m, e, &record[0..n]);
+                let answer = s.answer;
+                m = s.machine;
+                written += texts::put_answer(answer, &mut out[written..]);
+            }
+            len = 0;
+        }
+    }
+    Ran {
+        replay: Replay {
+            machine: m,
+            line,
+            len,
+        },
+        taken: at,
+        written,
+    }
+}
+
+// The end of the log: writes the answer to a last line without its line feed, if there is one, to
+// the start of `out`, and gives its length; 0 too where `out` has less room than a line may need.
+pub fn finish(kept: Replay, out: &mut [u8]) -> usize
+    ensures { λ r. ⌜ r ≡ putCount 32 (finished (goingOf kept [])) (now (out .entry)) ⌝ }
+    ensures { λ r. ⌜ now (out .exit) ≡ putLine 32 (finished (goingOf kept [])) (now (out .entry)) ⌝ }
+{
+    let len = smaller(kept.len, KEPT);
+    if len == 0 {
+        return 0;
+    }
+    let m = kept.machine;
+    let line = kept.line;
+    let mut record = [0u8; RECORD];
+    let e = lines::event_of(&line[0..len]);
+    let n = lines::record_of(&line[0..len], &mut record);
+    let s = machine::step(m, e, &record[0..n]);
+    let answer = s.answer;
+    texts::put_answer(answer, out)
+}
