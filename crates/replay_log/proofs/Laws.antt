@@ -445,3 +445,8 @@ put-none out = by-room (ltb (length out) 32) refl
     by-room : (t : Bool) → ltb (length out) 32 ≡ t → (0 ≡ putCount 32 [] out) × (out ≡ putLine 32 [] out)
     by-room true e = (rw (e, putCount), rw (e, putLine))
     by-room false e = (rw (e, putCount), rw (e, putLine))
+
+pub finished-short : (m : Machine) (begun : List ℕ) → length (finished (going m begun [])) ≤ 32
+unfolding endOf ended
+finished-short m [] = omega arith
+finished-short m (b ∷ bs) = answer-short (stepLine (b ∷ bs) m .answer)

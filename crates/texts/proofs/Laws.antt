@@ -147,3 +147,12 @@ put-from {y} b e s p = rw (← b, signed-from y e, ← s) p
 pub answer-put : {a b : Answer} {l m : List ℕ} {r : ℕ} → a ≡ b → 32 ≤ length l → Put 0 (answerLine b) l r m
     → (r ≡ putCount 32 (answerLine a) l) × (m ≡ putLine 32 (answerLine a) l)
 answer-put {a} e h p = line-put (answerLine a) (answer-short a) h (rw e p)
+
+-- what was put lies inside the buffer
+pub count-fits : (line l : List ℕ) → length line ≤ 32 → putCount 32 line l ≤ length (putLine 32 line l)
+unfolding putCount putLine
+count-fits line l h = by-room (ltb (length l) 32) refl
+  where
+    by-room : (t : Bool) → ltb (length l) 32 ≡ t → putCount 32 line l ≤ length (putLine 32 line l)
+    by-room true e = rw (e, putCount, putLine) zero-le
+    by-room false e = rw (e, putCount, putLine) (let n = length-append line (drop (length line) l) in omega arith)

@@ -1,0 +1,97 @@
+// Replays a log: reads the system record from `system.tss` and lines from standard input, and
+// prints boot's answer and, unless that is a refusal, an answer for each line.
+//
+// Everything that is answered comes from the libraries; here bytes are only read and written.
+ghost use Prim.Native.Nat.{_≤_};
+ghost use lib.ListN.{length};
+use libc::STDIN_FILENO;
+use libc::STDOUT_FILENO;
+use replay_log::Replay;
+
+// A replay, and whether its output could be written.
+struct Went {
+    replay: Replay,
+    on: bool,
+}
+
+// Reads the system record; of a file that is missing or cannot be read, no bytes.
+fn read_system(bytes: &mut [u8]) -> usize
+    ensures { λ r. ⌜ r ≤ length (now (bytes .exit)) ⌝ }
+{
+    let fd = os::open_read(b"system.tss");
+    if fd < 0 {
+        return 0;
+    }
+    let n = io::read_full(fd, bytes);
+    libc::close(fd);
+    n
+}
+
+// Replays a piece of the log and writes the answers.
+fn replay_piece(from: Replay, log: &[u8], out: &mut [u8]) -> Went {
+    let mut replay = from;
+    let mut at = 0;
+    while at < log.len() {
+        let ran = replay_log::run(replay, &log[at..], out);
+        replay = ran.replay;
+        let n = ran.written;
+        let taken = ran.taken;
+        if !io::write_all(STDOUT_FILENO, &out[0..n]) {
+            return Went { replay, on: false };
+        }
+        if taken == 0 {
+            return Went { replay, on: false };
+        }
+        at += taken;
+    }
+    Went { replay, on: true }
+}
+
+// Reads once and replays what came; at the end of the input, replays a last line without its line
+// feed.
+fn replay_some(from: Replay, piece: &mut [u8], out: &mut [u8]) -> Went {
+    let got = libc::read(STDIN_FILENO, piece);
+    let n = io::count(got, piece);
+    if 0 < n {
+        return replay_piece(from, &piece[..n], out);
+    }
+    let k = replay_log::finish(from, out);
+    io::write_all(STDOUT_FILENO, &out[0..k]);
+    Went {
+        replay: from,
+        on: false,
+    }
+}
+
+// Replays standard input. A proved loop has to end, and nothing says that an input does, so the
+// loop counts its turns down from a number that no run uses up.
+fn replay_all(from: Replay) {
+    let mut piece = io::large_buffer();
+    let mut out = io::large_buffer();
+    let mut went = Went {
+        replay: from,
+        on: true,
+    };
+    let mut turns = u64::MAX;
+    while 0 < turns {
+        let replay = went.replay;
+        went = replay_some(replay, &mut piece, &mut out);
+        if !went.on {
+            return;
+        }
+        turns -= 1;
+    }
+}
+
+fn main() {
+    let mut bytes = io::buffer();
+    let n = read_system(&mut bytes);
+    let booted = machine_state::boot(&bytes[0..n]);
+    let code = booted.code;
+    let machine = booted.machine;
+    let k = texts::put_boot(code, &mut bytes);
+    io::write_all(STDOUT_FILENO, &bytes[0..k]);
+    if code == 0 {
+        replay_all(replay_log::start(machine));
+    }
+}
