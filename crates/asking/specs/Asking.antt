@@ -23,11 +23,18 @@ use Rattle.asking.specs.declared.Change.{Change}
 use Rattle.asking.specs.declared.Change.the-variants.{Keep, SetPhase, Drop, DropAll}
 use Rattle.asking.specs.declared.Moved.{Moved}
 
--- the core with another waiting call, and with other words for one cell
+-- the messages, by their names in source document 001: Shutdown Request and Reconfiguration Completed
+abbrev pub shutdownRequest : ℕ
+shutdownRequest = 1
+
+abbrev pub reconfigCompleted : ℕ
+reconfigCompleted = 2
+
+-- the core with another waiting call
 abbrev pub withWaiting : Waiting → Core → Core
 withWaiting w c = record { pool = c .pool; used = c .used; root = c .root; comms = c .comms; cpus = c .cpus; waiting = w }
 
--- "To message a cell .. and wait for it": 1 asks for shutdown, 2 tells that the configuration changed
+-- "message the next cell .. and wait for it"
 unfoldable pub send : Kind → Stage → ℕ → Core → Core
 send kind stage code c = record {
   pool = c .pool;
@@ -55,11 +62,12 @@ unfoldable pub tell : Kind → ℕ → ℕ → Change → Core → Moved
 tell kind target after change c =
     let next = nextCell (c .used) (c .comms) 0 after in
     elim (ltb next maxCells) [
-      | true ↦ record { core = send kind (record { target = target; cell = next; telling = true }) 2 c; answer = Wait next; change = change }
+      | true ↦ record { core = send kind (record { target = target; cell = next; telling = true }) reconfigCompleted c; answer = Wait next; change = change }
       | false ↦ finish (endCode kind target) change c
     ]
 
--- "else the effect comes, Create and Destroy begin to tell and move on, the others end with 0"
+-- "else the effect comes, Create and Destroy begin to tell and move on, the others end with 0". Create had its effect when it was made and
+-- waits only while it tells, so it does not come here
 unfoldable pub carryOut : Kind → ℕ → Holding → Core → Moved
 carryOut Disable target held c = finish (pos 0) DropAll (disableEffect held c)
 carryOut Create target held c = tell Create target 0 Keep c
@@ -67,7 +75,6 @@ carryOut Start target held c = finish (pos 0) (SetPhase target Started) (startEf
 carryOut SetLoadable target held c = finish (pos 0) (SetPhase target Loading) (loadableEffect target held c)
 carryOut Destroy target held c = tell Destroy target 0 (Drop target) (destroyEffect target held c)
 
--- "With none left to ask .., Destroy ends with -1 if another cell has a lock (state 1)"
 unfoldable pub isDestroy : Kind → Bool
 isDestroy Disable = false
 isDestroy Create = false
@@ -75,11 +82,12 @@ isDestroy Start = false
 isDestroy SetLoadable = false
 isDestroy Destroy = true
 
+-- "With none left to ask .., Destroy ends with -1 if another cell has a lock (state 1)"
 unfoldable pub asked : Kind → ℕ → Holding → Core → Moved
 asked kind target held c =
     elim (isDestroy kind && lockedBut (c .used) (c .comms) target) [ true ↦ finish EPERM Keep c | false ↦ carryOut kind target held c ]
 
--- "Start, Set Loadable and Destroy ask their target, Disable all cells": 0 stands for all
+-- "Start, Set Loadable and Destroy ask their target, Disable all cells": 0 stands for all. Create asks nobody and is not asked about here
 unfoldable pub askOnly : Kind → ℕ → ℕ
 askOnly Disable target = 0
 askOnly Create target = target
@@ -92,7 +100,7 @@ unfoldable pub ask : Kind → ℕ → ℕ → Holding → Core → Moved
 ask kind target after held c =
     let next = nextCell (c .used) (c .comms) (askOnly kind target) after in
     elim (ltb next maxCells) [
-      | true ↦ record { core = send kind (record { target = target; cell = next; telling = false }) 1 c; answer = Wait next; change = Keep }
+      | true ↦ record { core = send kind (record { target = target; cell = next; telling = false }) shutdownRequest c; answer = Wait next; change = Keep }
       | false ↦ asked kind target held c
     ]
 

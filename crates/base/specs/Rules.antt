@@ -13,7 +13,7 @@ unfoldable pub firstRule : {A : Type 0} → List (Refusal A) → A → A
 firstRule [] otherwise = otherwise
 firstRule (r ∷ rs) otherwise = elim (r .when) [ true ↦ r .code | false ↦ firstRule rs otherwise ]
 
--- the codes, by the names of source documents 000 and 001: the number that the paper gives for each
+-- the codes, by their names in source documents 000 and 001; -38, which they do not name, is Linux's ENOSYS
 abbrev pub EPERM : ℤ
 EPERM = negsuc 0
 

@@ -46,7 +46,7 @@ holdingAll used cells (id ∷ ids) =
       | false ↦ holdingAll used cells ids
     ]
 
--- what a call's effect gives back: of Disable what all cells hold, else what the target holds
+-- what a call's effect works on: of Disable what all cells hold, else what the target holds
 unfoldable pub holdingFor : Kind → ℕ → ℕ → List Cell → Holding
 holdingFor Disable target used cells = holdingAll used cells cellIds
 holdingFor Create target used cells = holdingOf (cellAt cells target)

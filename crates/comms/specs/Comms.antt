@@ -57,5 +57,8 @@ unfoldable pub heard : Comm → Bool
 heard c = not (eqb (c .from) 0) || isFinal (c .state)
 
 -- "a final state counts as consent; else for message 1 only from = 3 consents and any other value is a denial"
+abbrev pub requestApproved : ℕ
+requestApproved = 3
+
 unfoldable pub consents : Comm → Bool
-consents c = isFinal (c .state) || eqb (c .from) 3
+consents c = isFinal (c .state) || eqb (c .from) requestApproved

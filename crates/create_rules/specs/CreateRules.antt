@@ -54,7 +54,7 @@ resourceBusy used root cells caller new =
 unfoldable pub noMemory : SystemConfig → ℕ → ℕ → CellConfig → Bool
 noMemory boot used pool new = eqb (freeId used) maxCells || ltb (boot .pool .pages) (pool + poolCost (new .count))
 
--- "-1 some active cell has state 1; -7 record longer than 568; -22 rule broken, no CPU, or a CPU outside the boot set; -17 name in use;
+-- "-1 some active cell has state 1; -7 record longer than 568; -22 rule broken, no CPU, or a CPU outside the boot set; -17 name in use, ..;
 -- -16 ..; -12 ..". The record's own refusals, -7 and -22, come from its reader. 0 where none applies
 unfoldable pub createRefusal : SystemConfig → List Cell → Core → ℕ → CellRead → ℤ
 createRefusal boot cells core caller read =

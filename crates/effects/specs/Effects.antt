@@ -9,7 +9,7 @@ use Rattle.cpu_set.specs.CpuSet.{union, without}
 use Rattle.region_table.specs.Tables.{maxRegions}
 use Rattle.machine_state.specs.declared.Comm.{Comm}
 use Rattle.machine_state.specs.declared.Waiting.the-variants.{Nothing}
-use Rattle.machine_state.specs.Machine.{commAt, noComm, maxCells}
+use Rattle.machine_state.specs.Machine.{commAt, noComm, maxCells, shutDown}
 use Rattle.cpu_table.specs.declared.CpuChange.the-variants.{Start, Stop, Give}
 use Rattle.cpu_table.specs.CpuTable.{changeCpus}
 use Rattle.comms.specs.Comms.{startedWords, withState}
@@ -27,7 +27,7 @@ addId used id = union used (single id) % 2 ^ 16
 unfoldable pub dropId : ℕ → ℕ → ℕ
 dropId used id = without used (single id) % 2 ^ 16
 
--- "pool use grows by 2 + region count"
+-- "pool use grows by 2 + region count", of a table that has room for no more than 16
 abbrev pub poolCost : ℕ → ℕ
 poolCost count = 2 + min count maxRegions
 
@@ -59,7 +59,7 @@ loadableEffect id held c = record {
   pool = c .pool;
   used = c .used;
   root = c .root;
-  comms = set (c .comms) id (withState 2 (commAt (c .comms) id));
+  comms = set (c .comms) id (withState shutDown (commAt (c .comms) id));
   cpus = changeCpus (held .cpus) Stop (c .cpus);
   waiting = c .waiting;
 }

@@ -35,7 +35,7 @@ use Rattle.unobeyed.specs.declared.Gate.the-variants.{Obey, Refuse}
 use Rattle.unobeyed.specs.Unobeyed.{gate, isDenied, pollGate, malformed}
 use Rattle.asking.specs.Asking.{pollCall, pollCell}
 use Rattle.cell_table.specs.CellTable.{coreOf, settle, rebuild, changePower, changeCells}
-use Rattle.machine.specs.Step.{heldByWaiting, stay, through, withTables, gateAt, callRefusal, callOf, countedCall, obeyCall, step, stepStore, stepExit, stepPoll, stepCall}
+use Rattle.machine.specs.Step.{holdingOfWaiting, stay, through, withTables, gateAt, callRefusal, callOf, countedCall, obeyCall, step, stepStore, stepExit, stepPoll, stepCall}
 use Rattle.calls.specs.Calls.{endNow, unlessRefused}
 use Rattle.machine.proofs.Laws.{outside, nowhere, no-member}
 use Rattle.fast_path.specs.declared.Look.{Look}
@@ -249,7 +249,7 @@ module _ (kind : Kind) (stage : Stage) (m : Machine) where
   still ec eh = ap (λ (k : ℕ). heard (commAt (m .comms) k)) (place-in 16 (stage .cell) (ltb-true (stage .cell) 16 ec)) ∙ eh
 
   waits-is : (h : Bool) → heard (seenAt look′ m .asked) ≡ h → (c : Bool) → ltb (stage .cell) 16 ≡ c → waits .taken ≡ true
-      → after look′ m waits ≡ settle (pollCall (Waiting.Call kind stage) (heldByWaiting (Waiting.Call kind stage) m) (coreOf m)) (m .cells) m
+      → after look′ m waits ≡ settle (pollCall (Waiting.Call kind stage) (holdingOfWaiting (Waiting.Call kind stage) m) (coreOf m)) (m .cells) m
   unfolding waits fastWaiting look′ pollCall pollCell
   waits-is true eh c ec t = absurd (never-taken (rw (eh, fastWaiting)) t)
   waits-is false eh false ec t = absurd (never-taken (rw (eh, ec, fastWaiting)) t)
@@ -259,7 +259,7 @@ module _ (kind : Kind) (stage : Stage) (m : Machine) where
       ∙ ap (λ (v : Moved). settle v (m .cells) m) (rw (quiet, pollCell))
 
 poll-is : (w : Waiting) (m : Machine) → fastWaiting w (seenAt (lookOf Poll w) m) .taken ≡ true
-    → after (lookOf Poll w) m (fastWaiting w (seenAt (lookOf Poll w) m)) ≡ settle (pollCall w (heldByWaiting w m) (coreOf m)) (m .cells) m
+    → after (lookOf Poll w) m (fastWaiting w (seenAt (lookOf Poll w) m)) ≡ settle (pollCall w (holdingOfWaiting w m) (coreOf m)) (m .cells) m
 unfolding fastWaiting notTaken waits look′
 poll-is Waiting.Nothing m t = absurd (true≢false (sym t))
 poll-is (Waiting.Call kind stage) m t = waits-is kind stage m (heard (seenAt (lookOf Poll (Waiting.Call kind stage)) m .asked)) refl (ltb (stage .cell) 16) refl t

@@ -9,7 +9,7 @@ use lib.ListN.{length}
 use Rattle.base.specs.Lists.{same}
 use Rattle.machine_state.specs.declared.Event.{Event}
 use Rattle.machine_state.specs.declared.Event.the-variants.{Call, Store, Fault, Exit, Poll, Malformed}
-use Rattle.lines.specs.Lines.{maxLine, wordsOf, value, isNumber, isHex, given, pollWord, faultWord, createWord, exitWord, storeWord, callWord, isCreate, isExit, eventOf, lineEvent}
+use Rattle.lines.specs.Lines.{maxLine, wordsOf, value, isNumber, isHex, given, wordPoll, wordFault, wordCreate, wordExit, wordStore, wordCall, isCreate, isExit, eventOf, lineEvent}
 use Rattle.lines.specs.Reading.{kept, numberOf}
 use Rattle.lines.specs.declared.numbers.Number.{Number}
 
@@ -23,7 +23,7 @@ passed t e f h = rw h
 pub refused : (t : Bool) (e f : Event) → t ≡ false → f ≡ either t e f
 refused t e f h = rw h
 
-pub poll-said : (w : List ℕ) (p : Bool) → p ≡ same w pollWord → given p Poll ≡ eventOf (w ∷ [])
+pub poll-said : (w : List ℕ) (p : Bool) → p ≡ same w wordPoll → given p Poll ≡ eventOf (w ∷ [])
 unfolding eventOf
 poll-said w p e = rw e
 
@@ -32,10 +32,10 @@ fault-kept false x a = refl
 fault-kept true false a = refl
 fault-kept true true a = refl
 
-pub fault-said : (w a : List ℕ) (p : Bool) (cpu : Number) → p ≡ same w faultWord → cpu ≡ numberOf 64 a
+pub fault-said : (w a : List ℕ) (p : Bool) (cpu : Number) → p ≡ same w wordFault → cpu ≡ numberOf 64 a
     → given (p && cpu .ok) (Fault (cpu .value)) ≡ eventOf (w ∷ a ∷ [])
 unfolding eventOf numberOf
-fault-said w a p cpu e f = rw (e, f) (fault-kept (same w faultWord) (isNumber 64 a) (value a))
+fault-said w a p cpu e f = rw (e, f) (fault-kept (same w wordFault) (isNumber 64 a) (value a))
 
 exit-kept : (p x y : Bool) (a b : ℕ) → given (p && x && y) (Exit (kept x a) (kept y b)) ≡ given (p && x && y) (Exit a b)
 exit-kept false x y a b = refl
@@ -50,14 +50,14 @@ create-kept true false h a e f q = q
 create-kept true true h a e f q = ap (either h (Call a 1 0 0)) q
 
 pub create-exit-said : (w a b : List ℕ) (p h q : Bool) (cpu kind : Number)
-    → p ≡ same w createWord → cpu ≡ numberOf 64 a → h ≡ isHex b → q ≡ same w exitWord → kind ≡ numberOf 64 b
+    → p ≡ same w wordCreate → cpu ≡ numberOf 64 a → h ≡ isHex b → q ≡ same w wordExit → kind ≡ numberOf 64 b
     → either (p && cpu .ok && h) (Call (cpu .value) 1 0 0) (given (q && cpu .ok && kind .ok) (Exit (cpu .value) (kind .value)))
     ≡ eventOf (w ∷ a ∷ b ∷ [])
 unfolding eventOf numberOf isCreate isExit
 create-exit-said w a b p h q cpu kind e f g i j =
     rw (e, f, g, i, j)
-    (create-kept (same w createWord) (isNumber 64 a) (isHex b) (value a) _ _
-    (exit-kept (same w exitWord) (isNumber 64 a) (isNumber 64 b) (value a) (value b)))
+    (create-kept (same w wordCreate) (isNumber 64 a) (isHex b) (value a) _ _
+    (exit-kept (same w wordExit) (isNumber 64 a) (isNumber 64 b) (value a) (value b)))
 
 store-kept : (p x y z : Bool) (a b c : ℕ)
     → given (p && x && y && z) (Store (kept x a) (kept y b) (kept z c)) ≡ given (p && x && y && z) (Store a b c)
@@ -68,11 +68,11 @@ store-kept true true true false a b c = refl
 store-kept true true true true a b c = refl
 
 pub store-said : (w a b c : List ℕ) (p : Bool) (cpu word new : Number)
-    → p ≡ same w storeWord → cpu ≡ numberOf 64 a → word ≡ numberOf 64 b → new ≡ numberOf 32 c
+    → p ≡ same w wordStore → cpu ≡ numberOf 64 a → word ≡ numberOf 64 b → new ≡ numberOf 32 c
     → given (p && cpu .ok && word .ok && new .ok) (Store (cpu .value) (word .value) (new .value)) ≡ eventOf (w ∷ a ∷ b ∷ c ∷ [])
 unfolding eventOf numberOf
 store-said w a b c p cpu word new e f g h = rw (e, f, g, h)
-    (store-kept (same w storeWord) (isNumber 64 a) (isNumber 64 b) (isNumber 32 c) (value a) (value b) (value c))
+    (store-kept (same w wordStore) (isNumber 64 a) (isNumber 64 b) (isNumber 32 c) (value a) (value b) (value c))
 
 call-kept : (p x y z u : Bool) (a b c d : ℕ)
     → given (p && x && y && z && u) (Call (kept x a) (kept y b) (kept z c) (kept u d)) ≡ given (p && x && y && z && u) (Call a b c d)
@@ -84,12 +84,12 @@ call-kept true true true true false a b c d = refl
 call-kept true true true true true a b c d = refl
 
 pub call-said : (w a b c d : List ℕ) (p : Bool) (cpu code arg1 arg2 : Number)
-    → p ≡ same w callWord → cpu ≡ numberOf 64 a → code ≡ numberOf 32 b → arg1 ≡ numberOf 64 c → arg2 ≡ numberOf 64 d
+    → p ≡ same w wordCall → cpu ≡ numberOf 64 a → code ≡ numberOf 32 b → arg1 ≡ numberOf 64 c → arg2 ≡ numberOf 64 d
     → given (p && cpu .ok && code .ok && arg1 .ok && arg2 .ok) (Call (cpu .value) (code .value) (arg1 .value) (arg2 .value))
     ≡ eventOf (w ∷ a ∷ b ∷ c ∷ d ∷ [])
 unfolding eventOf numberOf
 call-said w a b c d p cpu code arg1 arg2 e f g h i = rw (e, f, g, h, i)
-    (call-kept (same w callWord) (isNumber 64 a) (isNumber 32 b) (isNumber 64 c) (isNumber 64 d) (value a) (value b) (value c) (value d))
+    (call-kept (same w wordCall) (isNumber 64 a) (isNumber 32 b) (isNumber 64 c) (isNumber 64 d) (value a) (value b) (value c) (value d))
 
 pub six-words : (w a b c d e : List ℕ) (ws : List (List ℕ)) → Malformed ≡ eventOf (w ∷ a ∷ b ∷ c ∷ d ∷ e ∷ ws)
 unfolding eventOf

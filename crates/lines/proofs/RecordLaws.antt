@@ -10,7 +10,7 @@ use lib.Dec.{T, leb, eqb}
 use lib.ListN.{length, drop}
 use Rattle.base.specs.Lists.{all, same}
 use Rattle.base.proofs.Tests.{le-or-lt, is-true, holds, and-left, and-right}
-use Rattle.lines.specs.Lines.{maxLine, space, wordsOf, isNumber, isHexDigit, isPairs, isHex, bytesOf, createWord, isCreate, recordOf, lineRecord}
+use Rattle.lines.specs.Lines.{maxLine, space, wordsOf, isNumber, isHexDigit, isPairs, isHex, bytesOf, wordCreate, isCreate, recordOf, lineRecord}
 use Rattle.lines.specs.Reading.{untilSpace, numberOf, hexWord, lineHex}
 use Rattle.lines.specs.declared.numbers.Number.{Number}
 use Rattle.lines.proofs.WordLaws.{first-word, only-word, some-word}
@@ -18,7 +18,7 @@ use Rattle.lines.proofs.PairLaws.{all-hex}
 
 -- ---- the HEX of a line's words
 
-pub other-line : (w : List ℕ) (ws : List (List ℕ)) → same w createWord ≡ false → [] ≡ hexWord (w ∷ ws)
+pub other-line : (w : List ℕ) (ws : List (List ℕ)) → same w wordCreate ≡ false → [] ≡ hexWord (w ∷ ws)
 unfolding hexWord isCreate
 other-line w [] e = refl
 other-line w (a ∷ []) e = refl
@@ -50,11 +50,11 @@ module _ (w a h : List ℕ) (cpu : Number) (ok : Bool) (e : cpu ≡ numberOf 64 
   unfolding numberOf
   tests = rw (e, f)
 
-  create-is : isCreate w a h ≡ (same w createWord && (cpu .ok && ok))
+  create-is : isCreate w a h ≡ (same w wordCreate && (cpu .ok && ok))
   unfolding isCreate
-  create-is = and-assoc (same w createWord) (isNumber 64 a) (isHex h) ∙ ap (λ (t : Bool). same w createWord && t) (sym tests)
+  create-is = and-assoc (same w wordCreate) (isNumber 64 a) (isHex h) ∙ ap (λ (t : Bool). same w wordCreate && t) (sym tests)
 
-  pub hex-found : same w createWord ≡ true → (cpu .ok && ok) ≡ true → h ≡ hexWord (w ∷ a ∷ wordsOf h)
+  pub hex-found : same w wordCreate ≡ true → (cpu .ok && ok) ≡ true → h ≡ hexWord (w ∷ a ∷ wordsOf h)
   unfolding hexWord
   hex-found p t = rw (only-word h (no-space h (all-hex h hex)), create-is, p, t, hexWord)
     where
@@ -66,7 +66,7 @@ module _ (w a h : List ℕ) (cpu : Number) (ok : Bool) (e : cpu ≡ numberOf 64 
   hex-missed t = ⊎-elim last more (le-or-lt (length h) (untilSpace h))
     where
       last : length h ≤ untilSpace h → [] ≡ hexWord (w ∷ a ∷ wordsOf h)
-      last l = rw (only-word h l, create-is, t, and-false (same w createWord), hexWord)
+      last l = rw (only-word h l, create-is, t, and-false (same w wordCreate), hexWord)
 
       more : untilSpace h < length h → [] ≡ hexWord (w ∷ a ∷ wordsOf h)
       more l = rw (first-word h l, some-word (drop (suc (untilSpace h)) h) .2)
@@ -105,7 +105,7 @@ create-pairs : (w a b : List ℕ) → isCreate w a b ≡ true → isPairs b ≡ 
 unfolding isCreate isHex
 create-pairs w a b e =
     is-true (isPairs b)
-    (and-right (leb 1 (length b)) (isPairs b) (and-right (same w createWord && isNumber 64 a) (isHex b) (holds e)))
+    (and-right (leb 1 (length b)) (isPairs b) (and-right (same w wordCreate && isNumber 64 a) (isHex b) (holds e)))
 
 words-pairs : (ws : List (List ℕ)) → isPairs (hexWord ws) ≡ true
 unfolding hexWord isPairs

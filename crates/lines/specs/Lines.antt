@@ -13,7 +13,7 @@ abbrev pub maxLine : ℕ
 maxLine = 1400
 
 -- "single spaces": the words of a line are what stands between its spaces. Where two spaces meet, or one begins or ends the line, the
--- word is empty, and an empty word is none of those that follow
+-- word is empty, which is no line word, number or HEX
 abbrev pub space : ℕ
 space = 32
 
@@ -69,23 +69,23 @@ bytesOf (a ∷ []) = []
 bytesOf (a ∷ b ∷ bs) = (16 * hexDigit a + hexDigit b) ∷ bytesOf bs
 
 -- the line words
-abbrev pub callWord : List ℕ
-callWord = 0x63 ∷ 0x61 ∷ 0x6c ∷ 0x6c ∷ []
+abbrev pub wordCall : List ℕ
+wordCall = 0x63 ∷ 0x61 ∷ 0x6c ∷ 0x6c ∷ []
 
-abbrev pub createWord : List ℕ
-createWord = 0x63 ∷ 0x72 ∷ 0x65 ∷ 0x61 ∷ 0x74 ∷ 0x65 ∷ []
+abbrev pub wordCreate : List ℕ
+wordCreate = 0x63 ∷ 0x72 ∷ 0x65 ∷ 0x61 ∷ 0x74 ∷ 0x65 ∷ []
 
-abbrev pub storeWord : List ℕ
-storeWord = 0x73 ∷ 0x74 ∷ 0x6f ∷ 0x72 ∷ 0x65 ∷ []
+abbrev pub wordStore : List ℕ
+wordStore = 0x73 ∷ 0x74 ∷ 0x6f ∷ 0x72 ∷ 0x65 ∷ []
 
-abbrev pub faultWord : List ℕ
-faultWord = 0x66 ∷ 0x61 ∷ 0x75 ∷ 0x6c ∷ 0x74 ∷ []
+abbrev pub wordFault : List ℕ
+wordFault = 0x66 ∷ 0x61 ∷ 0x75 ∷ 0x6c ∷ 0x74 ∷ []
 
-abbrev pub exitWord : List ℕ
-exitWord = 0x65 ∷ 0x78 ∷ 0x69 ∷ 0x74 ∷ []
+abbrev pub wordExit : List ℕ
+wordExit = 0x65 ∷ 0x78 ∷ 0x69 ∷ 0x74 ∷ []
 
-abbrev pub pollWord : List ℕ
-pollWord = 0x70 ∷ 0x6f ∷ 0x6c ∷ 0x6c ∷ []
+abbrev pub wordPoll : List ℕ
+wordPoll = 0x70 ∷ 0x6f ∷ 0x6c ∷ 0x6c ∷ []
 
 -- the event, if the line is well formed. "All else is malformed"
 abbrev pub given : Bool → Event → Event
@@ -93,23 +93,23 @@ given ok e = elim ok [ true ↦ e | false ↦ Malformed ]
 
 -- `create CPU HEX`
 unfoldable pub isCreate : List ℕ → List ℕ → List ℕ → Bool
-isCreate w a b = same w createWord && isNumber 64 a && isHex b
+isCreate w a b = same w wordCreate && isNumber 64 a && isHex b
 
 -- `exit CPU KIND`
 unfoldable pub isExit : List ℕ → List ℕ → List ℕ → Bool
-isExit w a b = same w exitWord && isNumber 64 a && isNumber 64 b
+isExit w a b = same w wordExit && isNumber 64 a && isNumber 64 b
 
 -- `poll`; `fault CPU`; `exit CPU KIND` and `create CPU HEX`, which is the call with code 1; `store CPU WORD VALUE`; `call CPU CODE A1 A2`
 unfoldable pub eventOf : List (List ℕ) → Event
 eventOf [] = Malformed
-eventOf (w ∷ []) = given (same w pollWord) Poll
-eventOf (w ∷ a ∷ []) = given (same w faultWord && isNumber 64 a) (Fault (value a))
+eventOf (w ∷ []) = given (same w wordPoll) Poll
+eventOf (w ∷ a ∷ []) = given (same w wordFault && isNumber 64 a) (Fault (value a))
 eventOf (w ∷ a ∷ b ∷ []) =
     elim (isCreate w a b) [ true ↦ Call (value a) 1 0 0 | false ↦ given (isExit w a b) (Exit (value a) (value b)) ]
 eventOf (w ∷ a ∷ b ∷ c ∷ []) =
-    given (same w storeWord && isNumber 64 a && isNumber 64 b && isNumber 32 c) (Store (value a) (value b) (value c))
+    given (same w wordStore && isNumber 64 a && isNumber 64 b && isNumber 32 c) (Store (value a) (value b) (value c))
 eventOf (w ∷ a ∷ b ∷ c ∷ d ∷ []) =
-    given (same w callWord && isNumber 64 a && isNumber 32 b && isNumber 64 c && isNumber 64 d)
+    given (same w wordCall && isNumber 64 a && isNumber 32 b && isNumber 64 c && isNumber 64 d)
     (Call (value a) (value b) (value c) (value d))
 eventOf (w ∷ a ∷ b ∷ c ∷ d ∷ e ∷ ws) = Malformed
 

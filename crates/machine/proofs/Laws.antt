@@ -23,7 +23,7 @@ use Rattle.machine_state.specs.declared.Comm.{Comm}
 use Rattle.machine_state.specs.Machine.{cellAt, commAt, cpuAt, isFinal}
 use Rattle.cpu_table.specs.CpuTable.{allFailed}
 use Rattle.comms.specs.Comms.{withState}
-use Rattle.machine.specs.Step.{stay, through, gateAt, wordsAfterFault, callOf, heldByWaiting}
+use Rattle.machine.specs.Step.{stay, through, gateAt, wordsAfterFault, callOf, holdingOfWaiting}
 use Rattle.effects.specs.declared.Core.{Core}
 use Rattle.effects.specs.declared.Holding.{Holding}
 use Rattle.asking.specs.declared.Moved.{Moved}
@@ -113,13 +113,13 @@ outside power boot waiting cpu p bad denied h = by-power (isOff power) refl
     by-power false o = sym (rule-holds _ _ _ isBad ∙ rule-passed _ _ _ o) ∙ ap Refuse (no-rule Bad ∙ rule-passed _ _ _ o)
 
 -- a poll that is obeyed, put together from its parts
-pub polled : (m : Machine) (held : Holding) (core : Core) (moved : Moved) → held ≡ heldByWaiting (m .waiting) m → core ≡ coreOf m
+pub polled : (m : Machine) (held : Holding) (core : Core) (moved : Moved) → held ≡ holdingOfWaiting (m .waiting) m → core ≡ coreOf m
     → moved ≡ pollCall (core .waiting) held core
-    → settle moved (m .cells) m ≡ settle (pollCall (m .waiting) (heldByWaiting (m .waiting) m) (coreOf m)) (m .cells) m
+    → settle moved (m .cells) m ≡ settle (pollCall (m .waiting) (holdingOfWaiting (m .waiting) m) (coreOf m)) (m .cells) m
 unfolding coreOf
 polled m held core moved h c e =
     let w : core .waiting ≡ m .waiting = ap (λ (k : Core). k .waiting) c in
-    let all : moved ≡ pollCall (m .waiting) (heldByWaiting (m .waiting) m) (coreOf m) =
+    let all : moved ≡ pollCall (m .waiting) (holdingOfWaiting (m .waiting) m) (coreOf m) =
     e ∙ ap (λ (v : Waiting). pollCall v held core) w ∙ ap₂ (pollCall (m .waiting)) h c in
     ap (λ (v : Moved). settle v (m .cells) m) all
 

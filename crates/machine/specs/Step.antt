@@ -18,7 +18,7 @@ use Rattle.machine_state.specs.declared.Answer.{Answer}
 use Rattle.machine_state.specs.declared.Answer.the-variants.{Done}
 use Rattle.machine_state.specs.declared.Machine.{Machine}
 use Rattle.machine_state.specs.declared.Stepped.{Stepped}
-use Rattle.machine_state.specs.Machine.{cellAt, commAt, cpuAt, isFinal}
+use Rattle.machine_state.specs.Machine.{cellAt, commAt, cpuAt, failed, isFinal}
 use Rattle.cpu_table.specs.CpuTable.{countExit, exitCounter, callCounter, failCpu, allFailed}
 use Rattle.comms.specs.Comms.{withState, storeWord}
 use Rattle.effects.specs.declared.Holding.{Holding}
@@ -30,10 +30,11 @@ use Rattle.unobeyed.specs.declared.Gate.{Gate}
 use Rattle.unobeyed.specs.declared.Gate.the-variants.{Obey, Refuse}
 use Rattle.unobeyed.specs.Unobeyed.{gate, isDenied, pollGate, malformed}
 
--- "These change nothing at all"
+-- an answer and the machine after it
 unfoldable pub stay : Answer → Machine → Stepped
 stay answer m = record { answer = answer; machine = m }
 
+-- events that are not obeyed: "These change nothing at all"
 unfoldable pub through : Gate → Machine → Stepped → Stepped
 through Obey m obeyed = obeyed
 through (Refuse answer) m obeyed = stay answer m
@@ -69,7 +70,7 @@ unfoldable pub wordsAfterFault : ℕ → List Cpu → Machine → List Comm
 wordsAfterFault cell cpus m =
     let c = commAt (m .comms) cell in
     elim (not (eqb cell 0) && allFailed (cellAt (m .cells) cell .cpus) cpus && not (isFinal (c .state))) [
-      | true ↦ set (m .comms) cell (withState 3 c)
+      | true ↦ set (m .comms) cell (withState failed c)
       | false ↦ m .comms
     ]
 
@@ -85,7 +86,8 @@ stepExit cpu kind m =
     let counted = countExit (exitCounter kind) (cpuAt (m .cpus) cpu) in
     through (gateAt cpu (ltb 3 kind) false m) m (stay Done (withTables (m .comms) (set (m .cpus) cpu counted) m))
 
--- the call that a code means. "Arguments are 64-bit"
+-- the call that a code means: 0 Disable, 1 Create, 2 Start, 3 Set Loadable, 4 Destroy, 5 Get Info, 6 Get State, 7 CPU Get Info; those above
+-- 7 are refused before. "Arguments are 64-bit"
 unfoldable pub callOf : ℕ → ℕ → ℕ → ℕ → List ℕ → Machine → Stepped
 callOf zero cpu a1 a2 bytes m = disableCall m
 callOf (suc zero) cpu a1 a2 bytes m = createCall cpu bytes m
@@ -117,15 +119,15 @@ obeyCall cpu code a1 a2 bytes m = unlessRefused (callRefusal code (cpuAt (m .cpu
 unfoldable pub stepCall : ℕ → ℕ → ℕ → ℕ → List ℕ → Machine → Stepped
 stepCall cpu code a1 a2 bytes m = through (gateAt cpu false false m) m (obeyCall cpu code a1 a2 bytes (countedCall cpu m))
 
--- what the effect of the waiting call gives back
-unfoldable pub heldByWaiting : Waiting → Machine → Holding
-heldByWaiting Nothing m = holdingOf (cellAt (m .cells) 0)
-heldByWaiting (Call kind stage) m = holdingFor kind (stage .target) (m .used) (m .cells)
+-- what the effect of the waiting call works on
+unfoldable pub holdingOfWaiting : Waiting → Machine → Holding
+holdingOfWaiting Nothing m = holdingOf (cellAt (m .cells) 0)
+holdingOfWaiting (Call kind stage) m = holdingFor kind (stage .target) (m .used) (m .cells)
 
 unfoldable pub stepPoll : Machine → Stepped
 stepPoll m =
     through (pollGate (m .power) (m .waiting)) m
-    (settle (pollCall (m .waiting) (heldByWaiting (m .waiting) m) (coreOf m)) (m .cells) m)
+    (settle (pollCall (m .waiting) (holdingOfWaiting (m .waiting) m) (coreOf m)) (m .cells) m)
 
 -- every event; a call with code 1 comes with the bytes of its record
 unfoldable pub step : Event → List ℕ → Machine → Stepped

@@ -5,7 +5,7 @@ ghost use lib.ListN.{set};
 ghost use Rattle.machine_state.specs.Machine.{cellAt, commAt, cpuAt};
 ghost use Rattle.unobeyed.specs.Unobeyed.{malformed as malformed-of};
 ghost use Rattle.queries.specs.Queries.{getInfo, getState, cpuInfo};
-ghost use Rattle.machine.specs.Step.{stay, withTables, gateAt, stepStore, wordsAfterFault, stepFault, stepExit, callOf, callRefusal, countedCall, obeyCall, stepCall, heldByWaiting, stepPoll, step as step-of};
+ghost use Rattle.machine.specs.Step.{stay, withTables, gateAt, stepStore, wordsAfterFault, stepFault, stepExit, callOf, callRefusal, countedCall, obeyCall, stepCall, holdingOfWaiting, stepPoll, step as step-of};
 use base::EINVAL;
 use base::ENOSYS;
 use base::EPERM;
@@ -257,8 +257,8 @@ fn call_in(m: Machine, cpu: u64, code: u32, a1: u64, a2: u64, record: &[u8]) -> 
 }
 
 // What the effect of the waiting call gives back.
-fn held_by_waiting(m: Machine) -> Holding
-    ensures { λ r. ⌜ r ≡ heldByWaiting (m .waiting) m ⌝ }
+fn holding_of_waiting(m: Machine) -> Holding
+    ensures { λ r. ⌜ r ≡ holdingOfWaiting (m .waiting) m ⌝ }
 {
     let waiting = m.waiting;
     let cells = m.cells;
@@ -278,7 +278,7 @@ fn poll(m: Machine) -> Stepped
     match unobeyed::poll_gate(power, waiting) {
         Gate::Refuse(answer) => refuse(m, answer),
         Gate::Obey => {
-            let held = held_by_waiting(m);
+            let held = holding_of_waiting(m);
             let moved = asking::poll_call(cell_table::core_of(m), held);
             cell_table::settle(moved, cells, m)
         }

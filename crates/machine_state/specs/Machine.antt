@@ -65,7 +65,7 @@ bootOf r = record { code = bootAnswer r; machine = firstMachine (powerAfter (boo
 unfoldable pub live : ℕ → ℕ → Bool
 live used id = elim (ltb id maxCells) [ true ↦ bit id used | false ↦ false ]
 
--- what stands past a table's end, which no event reaches
+-- what stands past a table's end, on which no answer depends
 abbrev pub pastCell : Cell
 pastCell = record { phase = Suspended; name = []; cpus = 0; count = 0; regions = [] }
 
@@ -86,8 +86,17 @@ abbrev pub cpuAt : List Cpu → ℕ → Cpu
 cpuAt cpus k = getD cpus k pastCpu
 
 -- "State is 0 running, 1 running locked, 2 shut down, 3 failed; 2 and 3 are final"
+abbrev pub runningLocked : ℕ
+runningLocked = 1
+
+abbrev pub shutDown : ℕ
+shutDown = 2
+
+abbrev pub failed : ℕ
+failed = 3
+
 abbrev pub isFinal : ℕ → Bool
-isFinal state = eqb state 2 || eqb state 3
+isFinal state = eqb state shutDown || eqb state failed
 
 abbrev pub isLocked : ℕ → Bool
-isLocked state = eqb state 1
+isLocked state = eqb state runningLocked

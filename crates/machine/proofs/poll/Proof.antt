@@ -15,7 +15,7 @@ unfolding stepPoll
 returns-2 c =
     let m = c .before .before .before .before .before .before .before .before .args .m in
     obeys _ m _ _ (sym (c .before .before .before .before .before .before .poll-gate .ensures) ∙ c .before .before .before .before .enum-told .given .1)
-    (c .settle .ensures ∙ polled m _ _ _ (c .before .before .before .held-by-waiting .ensures) (c .before .before .core-of .ensures) (c .before .poll-call .ensures))
+    (c .settle .ensures ∙ polled m _ _ _ (c .before .before .before .holding-of-waiting .ensures) (c .before .before .core-of .ensures) (c .before .poll-call .ensures))
 
 pub poll-spec : {M : Type 1} → statement M
 poll-spec = tie.close (tie.spec (λ c κs. search needs) (λ c. search needs) (λ c κs. search needs) (λ c. search needs) (λ c κs. search needs) (λ c κs. search needs) (λ c κs. search needs) (λ c κs. search needs) returns returns-2)
