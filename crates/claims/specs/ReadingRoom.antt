@@ -25,35 +25,27 @@ use Rattle.pages.specs.declared.Owner.{Owner}
 use Rattle.pages.specs.declared.Owner.the-variants as Owner
 use Rattle.pages.specs.Pages.{ownerOf, rootMayTouch}
 use Rattle.machine.specs.Step.{step, withTables}
-
--- a number in w bytes, little-endian
-unfoldable pub le : ℕ → ℕ → List ℕ
-le zero n = []
-le (suc w) n = n % 256 ∷ le w (n / 256)
-
--- a name: its bytes, then zeros, 32 in all
-unfoldable pub named : ℕ → List ℕ → List ℕ
-named left [] = replicate left 0
-named zero (b ∷ bs) = []
-named (suc left) (b ∷ bs) = b ∷ named left bs
+use Rattle.fields.specs.Fields.{padded}
+use Rattle.comm_region.specs.CommRegion.{bytes}
 
 -- a region record: physical start, cell address, size, flags
 unfoldable pub region : ℕ → ℕ → ℕ → ℕ → List ℕ
-region start address size flags = le 8 start ++ le 8 address ++ le 8 size ++ le 8 flags
+region start address size flags = bytes 8 start ++ bytes 8 address ++ bytes 8 size ++ bytes 8 flags
+
+-- its name, which document 01 leaves open: `reading-room`
+abbrev pub systemName : List ℕ
+systemName = 0x72 ∷ 0x65 ∷ 0x61 ∷ 0x64 ∷ 0x69 ∷ 0x6e ∷ 0x67 ∷ 0x2d ∷ 0x72 ∷ 0x6f ∷ 0x6f ∷ 0x6d ∷ []
 
 -- "Four CPUs, boot set 15, root region 0 to 0x3f000000 (cell address 0, flags 7), hypervisor 0x3f000000 size 0x1000000, pool 100 used 10"
-abbrev pub systemName : List ℕ
-systemName = 0x62 ∷ 0x6f ∷ 0x78 ∷ []
-
 unfoldable pub box : List ℕ
 box =
-    0x54 ∷ 0x53 ∷ 0x53 ∷ 0 ∷ le 2 1 ++ le 2 1 ++ named 32 systemName ++ le 8 15 ++ le 2 4 ++ replicate 6 0 ++ le 8 0x3f000000 ++ le 8 0x1000000
-    ++ le 4 100 ++ le 4 10 ++ le 4 0 ++ le 4 0 ++ le 2 0 ++ replicate 6 0 ++ region 0 0 0x3f000000 7
+    0x54 ∷ 0x53 ∷ 0x53 ∷ 0 ∷ bytes 2 1 ++ bytes 2 1 ++ padded 32 systemName ++ bytes 8 15 ++ bytes 2 4 ++ replicate 6 0 ++ bytes 8 0x3f000000 ++ bytes 8 0x1000000
+    ++ bytes 4 100 ++ bytes 4 10 ++ bytes 4 0 ++ bytes 4 0 ++ bytes 2 0 ++ replicate 6 0 ++ region 0 0 0x3f000000 7
 
 -- a cell record: flags, name, CPUs, the count of its regions, and the regions
 unfoldable pub cell : ℕ → List ℕ → ℕ → ℕ → List ℕ → List ℕ
 cell flags name cpus count regions =
-    0x54 ∷ 0x53 ∷ 0x43 ∷ 0 ∷ le 2 1 ++ le 2 flags ++ named 32 name ++ le 8 cpus ++ le 2 count ++ replicate 6 0 ++ regions
+    0x54 ∷ 0x53 ∷ 0x43 ∷ 0 ∷ bytes 2 1 ++ bytes 2 flags ++ padded 32 name ++ bytes 8 cpus ++ bytes 2 count ++ replicate 6 0 ++ regions
 
 -- "Cell `search`: CPUs 12, not passive, region at 0x3a000000 size 0x1000000 cell address 0 flags 23, comm region at cell address 0x1000000"
 unfoldable pub search : List ℕ
@@ -132,7 +124,7 @@ pub record Row : Type 0 where
   pub log : List Said
   pub claims : List Claim
 
--- "table kept": the live cells, their phases and records, the pool and root's CPUs, number for number
+-- "table kept": the live cells, their phases and records, the pool, root's CPUs and each CPU's owner, number for number
 unfoldable pub phaseNumber : Phase → ℕ
 phaseNumber Suspended = 0
 phaseNumber Loading = 1
@@ -145,10 +137,24 @@ regionNumbers (r ∷ rs) = r .phys ∷ r .virt ∷ r .size ∷ r .flags ∷ regi
 unfoldable pub cellNumbers : Cell → List ℕ
 cellNumbers c = phaseNumber (c .phase) ∷ c .cpus ∷ c .count ∷ c .name ++ regionNumbers (c .regions)
 
+unfoldable pub sameBool : Bool → Bool → Bool
+sameBool true b = b
+sameBool false b = not b
+
+unfoldable pub ownerNumbers : List Cpu → List ℕ
+ownerNumbers [] = []
+ownerNumbers (p ∷ ps) = p .cell ∷ ownerNumbers ps
+
+unfoldable pub sameCell : Machine → Machine → ℕ → Bool
+sameCell m n id =
+    same (cellNumbers (cellAt (m .cells) id)) (cellNumbers (cellAt (n .cells) id))
+    && sameBool (commAt (m .comms) id .passive) (commAt (n .comms) id .passive)
+    && sameBool (commAt (m .comms) id .mapped) (commAt (n .comms) id .mapped)
+
 unfoldable pub sameTable : Machine → Machine → Bool
 sameTable m n =
     eqb (m .used) (n .used) && eqb (m .pool) (n .pool) && eqb (m .root) (n .root)
-    && all (λ id. same (cellNumbers (cellAt (m .cells) id)) (cellNumbers (cellAt (n .cells) id))) cellIds
+    && same (ownerNumbers (m .cpus)) (ownerNumbers (n .cpus)) && all (sameCell m n) cellIds
 
 unfoldable pub ownedBy : ℕ → Owner → Bool
 ownedBy id Owner.Hypervisor = false
@@ -156,10 +162,6 @@ ownedBy id (Owner.Cell k) = eqb id k
 ownedBy id Owner.Shared = false
 ownedBy id Owner.Root = false
 ownedBy id Owner.Nobody = false
-
-unfoldable pub sameBool : Bool → Bool → Bool
-sameBool true b = b
-sameBool false b = not b
 
 unfoldable pub claimHolds : Machine → Machine → Claim → Bool
 claimHolds before m (PoolUsed n) = eqb (m .pool) n

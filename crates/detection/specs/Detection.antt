@@ -1,5 +1,5 @@
 -- Detection leaves. Document 01, "Detection leaves", after the CPUID part of source document 001.
-use mathlib.Core.Bool.{Bool, true, false}
+use mathlib.Core.Bool.{true, false}
 use Prim.Native.Nat.{ℕ, _+_, _%_, _^_}
 use lib.Dec.{eqb}
 use Rattle.detection.specs.declared.Leaf.{Leaf}

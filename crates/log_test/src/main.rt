@@ -3,12 +3,14 @@
 //
 // `boot HEX` starts a machine from a system record and prints boot's answer; a line that starts
 // with `#` is a remark and is printed; every other line is a line of a log and meets the machine
-// that the last one left, also one that is off. Each line is answered twice, by a run over the log
+// that the last one left, also one that is off. `set store CPU COUNTER VALUE` puts a raw value into
+// an exit counter, which no log could reach in a reasonable time, and is printed. Each line is answered twice, by a run over the log
 // and by the one-event entry, and a third line says so where the two differ.
 ghost use Prim.Native.Nat.{_≤_};
 ghost use lib.ListN.{length};
 use libc::STDIN_FILENO;
 use libc::STDOUT_FILENO;
+use machine_state::Event;
 use machine_state::Machine;
 use replay_log::Replay;
 
@@ -96,6 +98,35 @@ fn answer(both: Both, log: &[u8], line: &[u8], out: &mut [u8]) -> Both {
     Both { run, machine: next }
 }
 
+// The machine with a raw value in a counter.
+fn with_counter(m: Machine, cpu: u64, counter: u64, value: u32) -> Machine {
+    if (64 <= cpu) | (6 <= counter) {
+        return m;
+    }
+    let mut next = m;
+    let k = fast_path::cpu_place(cpu);
+    let i = (counter % 6) as usize;
+    let mut p = m.cpus[k];
+    p.counters[i] = value;
+    next.cpus[k] = p;
+    next
+}
+
+// A line `set store CPU COUNTER VALUE`, given without `set `.
+fn set(both: Both, line: &[u8]) -> Both {
+    let machine = both.machine;
+    match lines::event_of(line) {
+        Event::Store(cpu, counter, value) => {
+            let next = with_counter(machine, cpu, counter, value);
+            Both {
+                run: replay_log::start(next),
+                machine: next,
+            }
+        }
+        _ => both,
+    }
+}
+
 // One line of the script, with its line feed in `log` and without it in `line`.
 fn script_line(both: Both, log: &[u8], line: &[u8], out: &mut [u8]) -> Both {
     if line.len() == 0 {
@@ -110,6 +141,10 @@ fn script_line(both: Both, log: &[u8], line: &[u8], out: &mut [u8]) -> Both {
     }
     if check::same(&line[0..5], b"boot ") {
         return boot(&line[5..], out);
+    }
+    if check::same(&line[0..4], b"set ") {
+        io::write_all(STDOUT_FILENO, log);
+        return set(both, &line[4..]);
     }
     answer(both, log, line, out)
 }

@@ -6,7 +6,7 @@ use Prim.Native.Nat.{ℕ, _+_, _-_, _*_, _/_, _^_}
 use lib.Dec.{leb, ltb, eqb}
 use lib.ListN.{take}
 use Rattle.base.specs.Lists.{any}
-use Rattle.base.specs.Rules.{Refusal, firstRule}
+use Rattle.base.specs.Rules.{firstRule}
 use Rattle.regions.specs.declared.MemRegion.{MemRegion}
 use Rattle.regions.specs.Regions.{flag, comm, loadable, shared, noRegion}
 use Rattle.system_record.specs.declared.SystemConfig.{SystemConfig}
@@ -29,7 +29,7 @@ use Rattle.pages.specs.declared.Mapping.the-variants.{Page, Comm, Nothin
 use Rattle.pages.specs.declared.Claim.{Claim}
 use Rattle.pages.specs.declared.Claim.the-variants as Claim
 
--- a range of bytes has page n: "Numbers from 2^36 up belong to nobody and map to nothing"
+-- a range of bytes has page n. "Numbers from 2^36 up belong to nobody and map to nothing": no range has such a page
 unfoldable pub hasPage : ℕ → ℕ → ℕ → Bool
 hasPage start size n = ltb n (2 ^ 36) && leb start (4096 * n) && ltb (4096 * n) (start + size)
 
@@ -48,7 +48,7 @@ booted Power.Off = false
 booted Power.On = true
 booted Power.Disabled = true
 
--- "with it in a region neither shared nor comm"; "a live cell's shared region has it"; "loadable pages"
+-- a region has a page: at all; as one "neither shared nor comm"; as a "shared region"; as one with "loadable pages"
 unfoldable pub regionHas : Claim → PhysPage → MemRegion → Bool
 regionHas Claim.Any p r = hasPhys p r
 regionHas Claim.Own p r = hasPhys p r && not (shared r) && not (comm r)
@@ -64,10 +64,11 @@ inPhase Claim.Loading Phase.Suspended = false
 inPhase Claim.Loading Phase.Loading = true
 inPhase Claim.Loading Phase.Started = false
 
+-- some region of a cell has the page
 unfoldable pub cellHas : Claim → PhysPage → Cell → Bool
 cellHas claim p c = inPhase claim (c .phase) && any (regionHas claim p) (take (c .count) (c .regions))
 
--- "a live (created, not destroyed) non-root cell" has the page, and the smallest ID of such a cell
+-- "a live (created, not destroyed) non-root cell" has the page: whether there is one, and the smallest ID of such a cell
 abbrev pub liveHas : Claim → ℕ → List Cell → PhysPage → ℕ → Bool
 liveHas claim used cells p id = live used id && cellHas claim p (cellAt cells id)
 
@@ -77,9 +78,11 @@ held claim used cells p = any (liveHas claim used cells p) cellIds
 unfoldable pub holder : Claim → ℕ → List Cell → PhysPage → ℕ
 holder claim used cells p = first (liveHas claim used cells p) cellIds
 
+-- "the hypervisor": its memory of the boot record
 unfoldable pub hypervisorHas : SystemConfig → PhysPage → Bool
 hypervisorHas boot p = hasPage (boot .hypervisor .start) (boot .hypervisor .size) (p .0)
 
+-- "root, if a boot region has it"
 unfoldable pub bootHas : SystemConfig → PhysPage → Bool
 bootHas boot p = any (regionHas Claim.Any p) (bootRegions boot)
 
@@ -98,6 +101,7 @@ ownerOf m p =
 
 -- ---- what root may touch
 
+-- "boot pages it owns, shared pages"
 unfoldable pub openToRoot : Owner → Bool
 openToRoot Owner.Hypervisor = false
 openToRoot (Owner.Cell id) = false
@@ -105,7 +109,7 @@ openToRoot Owner.Shared = true
 openToRoot Owner.Root = true
 openToRoot Owner.Nobody = false
 
--- "Root may touch boot pages it owns, shared pages, and loadable pages of a cell in loading"
+-- "Root may touch boot pages it owns, shared pages, and loadable pages of a cell in loading". Loadable and shared regions lie in boot regions
 unfoldable pub rootMayTouch : Machine → PhysPage → Bool
 rootMayTouch m p =
     booted (m .power) && bootHas (m .boot) p && (openToRoot (ownerOf m p) || held Claim.Loading (m .used) (m .cells) p)

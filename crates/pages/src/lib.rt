@@ -45,7 +45,7 @@ pub enum Mapping {
 
 // How a cell or root can have a page: in any region, in one of its own, in a shared one, or in one
 // that root may load.
-enum Claim {
+pub enum Claim {
     Any,
     Own,
     Shared,

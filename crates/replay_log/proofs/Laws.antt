@@ -18,7 +18,7 @@ use Rattle.base.proofs.Tests.{le-or-lt, holds, is-true, and-left, and-right}
 use Rattle.machine_state.specs.declared.Event.{Event}
 use Rattle.machine_state.specs.declared.Machine.{Machine}
 use Rattle.machine_state.specs.declared.Stepped.{Stepped}
-use Rattle.machine_state.specs.Machine.{cpuAt, commAt}
+use Rattle.machine_state.specs.Machine.{bootOf, cpuAt, commAt}
 use Rattle.machine.specs.Step.{stay, step, withTables}
 use Rattle.fast_path.specs.declared.Look.{Look}
 use Rattle.fast_path.specs.declared.Fast.{Fast}
@@ -27,9 +27,9 @@ use Rattle.fast_path.proofs.Laws.{after, fast-is-step}
 use Rattle.lines.specs.Lines.{lineEvent, lineRecord}
 use Rattle.lines.proofs.Laws.{event-cut, record-cut, record-short}
 use Rattle.machine_state.specs.declared.Answer.{Answer}
-use Rattle.texts.specs.Texts.{answerLine, putLine, putCount}
+use Rattle.texts.specs.Texts.{answerLine, bootLine, putLine, putCount}
 use Rattle.texts.proofs.Laws.{answer-short}
-use Rattle.replay_log.specs.Replay.{lineFeed, lastLine, linesFrom, linesOf, stepLine, answersTo}
+use Rattle.replay_log.specs.Replay.{lineFeed, lastLine, linesFrom, linesOf, stepLine, answersTo, unlessNegative, replayText}
 use Rattle.replay_log.specs.Feed.{Going, ended, longer, feedByte, feed, endOf, finished, lineLength, keptBytes}
 
 -- one turn of the search for a line feed, and its two ends
@@ -450,3 +450,12 @@ pub finished-short : (m : Machine) (begun : List ℕ) → length (finished (goin
 unfolding endOf ended
 finished-short m [] = omega arith
 finished-short m (b ∷ bs) = answer-short (stepLine (b ∷ bs) m .answer)
+
+-- the whole output of a replay: boot's line and, unless it is a refusal, what a run over the log writes
+pub replay-is : (system log : List ℕ)
+    → replayText system log
+    ≡ bootLine (bootOf system .code)
+    ++ unlessNegative (bootOf system .code) (finished (feed log (record { machine = bootOf system .machine; begun = []; text = [] })))
+unfolding replayText
+replay-is system log =
+    ap (λ (t : List ℕ). bootLine (bootOf system .code) ++ unlessNegative (bootOf system .code) t) (sym (fed-is-replay log (bootOf system .machine)))

@@ -1,11 +1,13 @@
 -- `pages::has_page` meets its contract: a number from 2^36 up, a page before the range, and the rest. Assumes nothing.
+use Prim.Native.Nat.{_^_, _≤_}
+use native.Mathlib.Omega.{arith}
 use Rattle.pages.proofs.Laws.{page-past, page-before, page-from}
 use borrow.Author.Needs.{needs}
 use Rattle.pages.proofs.has_page.Statement.{statement}
 use Rattle.pages.proofs.has_page.Tie as tie
 
 returns : tie.Need-returns
-returns c = page-past _ _ _ (c .if1 .taken)
+returns c = let past : 2 ^ 36 ≤ c .before .args .n = omega arith in page-past _ _ _ past
 
 returns-2 : tie.Need-returns-2
 returns-2 c = page-before _ _ _ (c .before .if1 .left) (c .if2 .taken)

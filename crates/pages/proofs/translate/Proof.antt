@@ -1,8 +1,6 @@
 -- `pages::translate` meets its contract: each test is one of the definition, in its order. A page that the region has is no earlier than the
 -- region's first, and below 2^36, so that no number wraps. Assumes nothing.
-use mathlib.Core.Path.{sym, ap, _∙_}
-use Prim.Native.Nat.{_≤_, _<_, _/_, _^_}
-use native.Mathlib.Omega.{arith}
+use mathlib.Core.Path.{sym, _∙_}
 use borrow.Author.Tests.{not-true, not-false}
 use Rattle.pages.specs.declared.Mapping.the-variants.{Page}
 use Rattle.pages.specs.Pages.{mapped, hasVirt, physOf}
@@ -35,8 +33,9 @@ add-t9 c =
 returns-3 : tie.Need-returns-3
 unfolding mapped physOf
 returns-3 c =
+    let a = c .before .before .before .before .before .before .before .before .args in
     rw (sym (c .before .before .before .before .before .before .before .has-virt .ensures) ∙ not-false _ (c .before .before .before .before .before .before .if1 .left), sym (c .before .before .before .before .before .is-comm .ensures) ∙ c .before .before .before .before .if2 .left, mapped)
-    (cc)
+    (λ i. Page (physOf (a .r) (a .page)) (c .access-of .ensures i))
 
 pub translate-spec : {M : Type 1} → statement M
 translate-spec = tie.close (tie.spec (λ c κs. search needs) returns (λ c κs. search needs) returns-2 sub-t8 add-t9 (λ c κs. search needs) returns-3)

@@ -1,0 +1,15 @@
+-- `pages_test::words::number` is safe and ends. The loop's invariant: i is at most the length. Assumes nothing.
+use Prim.Native.Nat.{_≤_, _-_}
+use lib.ListN.{length}
+use borrow.Author.Needs.{needs}
+use Rattle.pages_test.proofs.words.number.Statement.{statement}
+use Rattle.pages_test.proofs.words.number.Tie as tie
+
+abbrev Inv-loop : tie.InvT-loop
+Inv-loop s k r₀ i₀ r i = i ≤ length s
+
+abbrev μ-loop : tie.MeasureT-loop
+μ-loop s k r₀ i₀ r i = length s - i
+
+pub number-spec : {M : Type 1} → statement M
+number-spec = tie.close (tie.spec Inv-loop μ-loop (λ c. search needs) (λ c. search needs) (λ c κs. search needs) (λ c. search needs) (λ c. search needs) (λ c. search needs) (λ c. search needs))
