@@ -8,7 +8,7 @@ use lib.IntN.{pos}
 use Rattle.base.specs.Lists.{any, from}
 use Rattle.base.specs.Rules.{EPERM}
 use Rattle.machine_state.specs.declared.Kind.the-variants.{Disable, Create, Destroy}
-use Rattle.account.specs.Account.{Call, Shown, Stored, Move, Asks, Tells, Ended, begins, polled, noEffect, replyOf, askOn, nextOf, mayAsk, noneToAsk, locked, effectOf, tellOn, remaining, stateOf, heardBy, consentsBy, lastCode, isCreate, newId, chosen, replyFrom}
+use Rattle.account.specs.Account.{Call, Shown, Asks, Tells, Ended, begins, polled, noEffect, replyOf, askOn, nextOf, mayAsk, noneToAsk, locked, effectOf, tellOn, remaining, stateOf, heardBy, consentsBy, lastCode, isCreate, newId, chosen, replyFrom}
 
 running : ℕ → ℕ → Shown
 running id state = record { id = id; passive = false; state = state }

@@ -1,10 +1,8 @@
 -- Moving on, by whether a next cell is found: each law takes what the code's parts ensure to the definition's case. Assumes nothing.
-use mathlib.Core.Path.{_≡_, refl, sym, ap, _∙_, subst}
+use mathlib.Core.Path.{_≡_, ap, _∙_, subst}
 use mathlib.Core.Bool.{Bool, true, false, _&&_}
 use Prim.Native.Nat.{ℕ, _≤_, _<_}
 use borrow.Author.Tests.{lt-ltb, le-ltb}
-use lib.Dec.{ltb}
-use lib.IntN.{ℤ}
 use Rattle.base.specs.Rules.{EPERM}
 use Rattle.machine_state.specs.declared.Kind.{Kind}
 use Rattle.machine_state.specs.declared.Stage.{Stage}

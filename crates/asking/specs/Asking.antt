@@ -1,7 +1,6 @@
 -- Asking and waiting. Document 01, "Asking and waiting". What a call or a poll does to the core, its answer, and what it does to the cell
 -- table.
-use mathlib.Core.Bool.{Bool, true, false, not, _&&_}
-use mathlib.Core.List.{List}
+use mathlib.Core.Bool.{Bool, true, false, _&&_}
 use Prim.Native.Nat.{ℕ, _%_, _^_}
 use lib.Dec.{ltb}
 use lib.IntN.{ℤ, pos}

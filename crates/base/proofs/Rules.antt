@@ -1,6 +1,6 @@
 -- Laws of a table of refusals: the first rule answers where it holds, and is passed over where it does not. Assumes nothing.
 use mathlib.Core.Path.{_≡_, refl}
-use mathlib.Core.Bool.{Bool, true, false}
+use mathlib.Core.Bool.{true, false}
 use mathlib.Core.List.{List, [], _∷_}
 use Rattle.base.specs.Rules.{Refusal, firstRule}
 

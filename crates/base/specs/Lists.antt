@@ -25,11 +25,6 @@ module _ {ℓ} {A : Type ℓ} where
   abbrev pub part : ℕ → ℕ → List A → List A
   part at n xs = take n (drop at xs)
 
--- every test of a list of tests passes
-unfoldable pub every : List Bool → Bool
-every [] = true
-every (b ∷ bs) = b && every bs
-
 -- n numbers from k on
 unfoldable pub from : ℕ → ℕ → List ℕ
 from k zero = []

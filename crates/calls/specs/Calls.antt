@@ -1,11 +1,11 @@
 -- Calls. Document 01, "Calls and their return codes": what an obeyed call, already counted, answers and does.
-use mathlib.Core.Bool.{Bool, true, false, not, _&&_, _||_}
+use mathlib.Core.Bool.{not, _&&_}
 use mathlib.Core.List.{List, [], _∷_}
 use Prim.Native.Nat.{ℕ, zero, suc}
 use lib.Dec.{eqb}
 use lib.IntN.{ℤ, pos, negsuc}
 use lib.ListN.{set}
-use Rattle.base.specs.Rules.{Refusal, firstRule, EPERM, ENOENT, EINVAL}
+use Rattle.base.specs.Rules.{firstRule, EPERM, ENOENT, EINVAL}
 use Rattle.cell_record.specs.declared.CellConfig.{CellConfig}
 use Rattle.cell_record.specs.declared.CellRead.{CellRead}
 use Rattle.cell_record.specs.CellRecord.{readCell}

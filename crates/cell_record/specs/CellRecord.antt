@@ -1,12 +1,12 @@
 -- The cell record. Document 01, "Boot and cell records": "Cell record: 0 mark `TSC`, ..".
-use mathlib.Core.Bool.{Bool, true, false, not, _&&_, _||_}
+use mathlib.Core.Bool.{Bool, not, _&&_, _||_}
 use mathlib.Core.List.{List, [], _∷_}
 use Prim.Native.Nat.{ℕ, _+_, _*_, _%_}
 use lib.Dec.{leb, ltb, eqb}
 use lib.ListN.{length, take}
 use lib.IntN.{ℤ, pos}
 use Rattle.base.specs.Lists.{all, any, pairwise, part, same}
-use Rattle.base.specs.Rules.{Refusal, firstRule, E2BIG, EINVAL}
+use Rattle.base.specs.Rules.{firstRule, E2BIG, EINVAL}
 use Rattle.cpu_set.specs.CpuSet.{isEmpty}
 use Rattle.fields.specs.Fields.{u16, u64, zeros, isName, padded}
 use Rattle.regions.specs.declared.MemRegion.{MemRegion}

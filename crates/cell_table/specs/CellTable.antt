@@ -1,5 +1,5 @@
 -- The cell table beside the core: what cells hold, a new cell, and the machine put together again from its parts.
-use mathlib.Core.Bool.{Bool, true, false}
+use mathlib.Core.Bool.{true, false}
 use mathlib.Core.List.{List, [], _∷_}
 use Prim.Native.Nat.{ℕ, _+_}
 use lib.ListN.{set, replicate}
@@ -18,8 +18,6 @@ use Rattle.machine_state.specs.declared.Machine.{Machine}
 use Rattle.machine_state.specs.declared.Stepped.{Stepped}
 use Rattle.machine_state.specs.declared.Kind.{Kind}
 use Rattle.machine_state.specs.declared.Kind.the-variants.{Disable, Create, Start, SetLoadable, Destroy}
-use Rattle.machine_state.specs.declared.Waiting.{Waiting}
-use Rattle.machine_state.specs.declared.Waiting.the-variants.{Nothing, Call}
 use Rattle.machine_state.specs.Machine.{live, cellAt, noCell, maxCells}
 use Rattle.comms.specs.Comms.{cellIds}
 use Rattle.effects.specs.declared.Core.{Core}

@@ -1,10 +1,10 @@
 -- The reading-room box. Document 01, the section of that name: its records, byte for byte, and its starred lines as rows of one table.
-use mathlib.Core.Bool.{Bool, true, false, not, _&&_, _||_}
+use mathlib.Core.Bool.{Bool, true, false, not, _&&_}
 use mathlib.Core.List.{List, [], _∷_, _++_}
-use Prim.Native.Nat.{ℕ, zero, suc, _+_, _*_, _/_, _%_, _^_}
-use lib.Dec.{leb, ltb, eqb}
-use lib.IntN.{ℤ, pos, negsuc}
-use lib.ListN.{length, replicate, set}
+use Prim.Native.Nat.{ℕ, _+_}
+use lib.Dec.{eqb}
+use lib.IntN.{pos}
+use lib.ListN.{replicate, set}
 use Rattle.base.specs.Lists.{all, same}
 use Rattle.base.specs.Rules.{EPERM, ENOENT, EINVAL, EBUSY, EEXIST}
 use Rattle.machine_state.specs.declared.Cpu.{Cpu}
@@ -13,7 +13,6 @@ use Rattle.machine_state.specs.declared.Event.the-variants.{Call, Store, Poll}
 use Rattle.machine_state.specs.declared.Answer.{Answer}
 use Rattle.machine_state.specs.declared.Answer.the-variants.{Code, Wait, Done}
 use Rattle.machine_state.specs.declared.Machine.{Machine}
-use Rattle.machine_state.specs.declared.Stepped.{Stepped}
 use Rattle.machine_state.specs.declared.Phase.{Phase}
 use Rattle.machine_state.specs.declared.Phase.the-variants.{Suspended, Loading, Started}
 use Rattle.machine_state.specs.declared.Cell.{Cell}

@@ -1,6 +1,6 @@
 // Communication words and the set of live cells.
 ghost use mathlib.Core.Path.{_≡_};
-ghost use mathlib.Core.Bool.{Bool, true, false};
+ghost use mathlib.Core.Bool.{false};
 ghost use Rattle.machine_state.specs.Machine.{live, isFinal};
 ghost use Rattle.comms.specs.Comms.{freeId, messaged, nextCell, lockedBut, message as message-of, withState, startedWords, storeWord, heard as heard-of, consents as consents-of};
 ghost use Rattle.comms.specs.Choice.{choice};

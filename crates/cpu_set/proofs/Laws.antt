@@ -2,7 +2,6 @@
 -- Each follows from the number's binary digits, taken one at a time. Assumes nothing.
 use mathlib.Core.Bool.{Bool, true, false, not, xor, _&&_, _||_, Bool·beq}
 use mathlib.Core.Path.{_≡_, refl, sym, ap, ap₂, _∙_}
-use mathlib.Core.List.{List, [], _∷_}
 use Prim.Native.Nat.{ℕ, zero, suc, _+_, _*_, _/_, _%_, _^_, _≤_, _<_}
 use native.Mathlib.Nat.{mod-one, mod-lt, mod-eq-of-lt, div-eq-of-lt, lt-of-lt-of-le, lt-of-le-of-lt, zero-div, pow-suc, mul-comm}
 use native.Mathlib.Numerals.{one-add}
@@ -13,7 +12,7 @@ use lib.Pow.{pow-mono, mod-pow-add, shr-shr, shr-le}
 use lib.Bits.{bitAnd, bitOr, bitXor, and-shr, or-shr, xor-shr, and-mod, or-mod, xor-mod}
 use lib.Count.{ones, onesIn, ones-cat}
 use borrow.Author.Tests.{ltb-true, ltb-false}
-use Rattle.base.specs.Lists.{all, any, upTo}
+use Rattle.base.specs.Lists.{all, upTo}
 use Rattle.base.proofs.Tests.{equal-tests, eq→eqb}
 use Rattle.base.proofs.Lists.{upTo-intro, upTo-elim, all-same}
 use Rattle.cpu_set.specs.CpuSet.{bit, member, numberOf, setOf, countBelow, count, isEmpty}

@@ -1,7 +1,7 @@
 -- The CPU table. Document 01, "Events that are not obeyed" (the counters) and "Calls and their return codes" (what effects do to CPUs).
 use mathlib.Core.Bool.{Bool, true, false, not, _||_}
 use mathlib.Core.List.{List, map}
-use Prim.Native.Nat.{ℕ, suc, _+_, _%_, _^_}
+use Prim.Native.Nat.{ℕ, _+_, _%_, _^_}
 use lib.ListN.{getD, set}
 use Rattle.base.specs.Lists.{all, upTo}
 use Rattle.cpu_set.specs.CpuSet.{member}

@@ -1,6 +1,5 @@
 // The CPU table: exit counters, failed marks, and what an effect does to the CPUs of a set.
 ghost use mathlib.Core.Path.{_≡_};
-ghost use Rattle.machine_state.specs.Machine.{freshCpu};
 ghost use Rattle.cpu_table.specs.CpuTable.{bump as bump-of, countExit, changeCpu, changeIn, changeCpus, failCpu, allFailed};
 use machine_state::Cpu;
 use machine_state::MAX_CPUS;

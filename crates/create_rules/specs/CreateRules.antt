@@ -6,7 +6,7 @@ use lib.Dec.{ltb, eqb}
 use lib.IntN.{ℤ, pos, negsuc}
 use lib.ListN.{take}
 use Rattle.base.specs.Lists.{any, same}
-use Rattle.base.specs.Rules.{Refusal, firstRule, EPERM, ENOMEM, EBUSY, EEXIST, EINVAL}
+use Rattle.base.specs.Rules.{firstRule, EPERM, ENOMEM, EBUSY, EEXIST, EINVAL}
 use Rattle.cpu_set.specs.CpuSet.{member, subset}
 use Rattle.regions.specs.declared.MemRegion.{MemRegion}
 use Rattle.regions.specs.Regions.{comm, shared, overlapPhys}

@@ -1,6 +1,5 @@
 // When Create is refused: names and memory that other cells have, CPUs that are not root's, no room.
 ghost use mathlib.Core.Path.{_≡_};
-ghost use mathlib.Core.Bool.{not};
 ghost use lib.ListN.{take};
 ghost use Rattle.base.specs.Lists.{any};
 ghost use Rattle.create_rules.specs.CreateRules.{nameInUse, conflict as conflict-of, conflicts as conflicts-of, regionInUse, resourceBusy, noMemory, createRefusal};

@@ -1,14 +1,12 @@
 -- Effects of calls. Document 01, "Calls and their return codes", the paragraph "Effects". Each is said on the machine's core: the pool,
 -- the live IDs, root's CPUs, the communication words, the CPU table and the waiting call. What it does to the cell table stands beside it.
-use mathlib.Core.Bool.{Bool, true, false}
-use mathlib.Core.List.{List}
+use mathlib.Core.Bool.{true, false}
 use Prim.Native.Nat.{ℕ, _+_, _-_, _%_, _^_, min}
 use lib.Dec.{ltb}
 use lib.ListN.{set, replicate}
 use Rattle.cpu_set.specs.CpuSet.{union, without}
 use Rattle.region_table.specs.Tables.{maxRegions}
 use Rattle.machine_state.specs.declared.Comm.{Comm}
-use Rattle.machine_state.specs.declared.Waiting.the-variants.{Nothing}
 use Rattle.machine_state.specs.Machine.{commAt, noComm, maxCells, shutDown}
 use Rattle.cpu_table.specs.declared.CpuChange.the-variants.{Start, Stop, Give}
 use Rattle.cpu_table.specs.CpuTable.{changeCpus}

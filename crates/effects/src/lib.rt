@@ -1,7 +1,7 @@
 // Effects of calls on the machine's core: the parts that are small enough to be handed over whole.
 // The cell table, which is not, is changed in place beside them.
 ghost use mathlib.Core.Path.{_≡_};
-ghost use Prim.Native.Nat.{_-_, min};
+ghost use Prim.Native.Nat.{_-_};
 ghost use lib.ListN.{set};
 ghost use Rattle.machine_state.specs.Machine.{commAt};
 ghost use Rattle.effects.specs.Effects.{single as single-of, addId, dropId, poolCost, createEffect, startEffect, loadableEffect, destroyEffect, disableEffect};

@@ -4,10 +4,10 @@
 use mathlib.Core.Path.{_≡_, refl, sym, ap, ap₂, _∙_, subst}
 use mathlib.Core.Bool.{Bool, true, false, not, true≢false}
 use mathlib.Core.List.{List}
-use Prim.Native.Nat.{ℕ, zero, suc, _+_, _≤_, _<_}
+use Prim.Native.Nat.{ℕ, zero, suc, _≤_, _<_}
 use lib.Dec.{ltb, eqb}
 use lib.IntN.{ℤ, pos, negsuc}
-use lib.ListN.{set, getD, length}
+use lib.ListN.{set, length}
 use lib.Seq.{set-getD, getD-set-same, getD-set-other}
 use native.Mathlib.Omega.{arith}
 use borrow.Author.Tests.{ltb-true, ltb-false, le-ltb, ne-eqb, eqb-true, eqb-false}
@@ -23,7 +23,7 @@ use Rattle.machine_state.specs.declared.Waiting.the-variants as Waiting
 use Rattle.machine_state.specs.declared.Event.{Event}
 use Rattle.machine_state.specs.declared.Event.the-variants.{Call, Store, Fault, Exit, Poll, Malformed}
 use Rattle.machine_state.specs.declared.Answer.{Answer}
-use Rattle.machine_state.specs.declared.Answer.the-variants.{Code, Wait, Done, Idle}
+use Rattle.machine_state.specs.declared.Answer.the-variants.{Code, Wait, Done}
 use Rattle.machine_state.specs.declared.Machine.{Machine}
 use Rattle.machine_state.specs.declared.Stepped.{Stepped}
 use Rattle.machine_state.specs.Machine.{live, pastCpu, pastComm, commAt, cpuAt}
@@ -39,10 +39,9 @@ use Rattle.machine.specs.Step.{holdingOfWaiting, stay, through, withTables, gat
 use Rattle.calls.specs.Calls.{endNow, unlessRefused}
 use Rattle.machine.proofs.Laws.{outside, nowhere, no-member}
 use Rattle.fast_path.specs.declared.Look.{Look}
-use Rattle.fast_path.specs.declared.Seen.{Seen}
 use Rattle.fast_path.specs.declared.Fast.{Fast}
 use Rattle.fast_path.specs.FastPath.{placeIn, lookOf, seenAt, leave, notTaken, fastThrough, fastUnless, askedCpu, fastQuery, fastCounted, fastWaiting, fastEvent, fastOf, putBack}
-use Rattle.fast_path.proofs.Parts.{place-in, place-out, refuses}
+use Rattle.fast_path.proofs.Parts.{place-in}
 
 -- what the fast path makes of a machine
 abbrev pub after : Look → Machine → Fast → Stepped
@@ -335,3 +334,42 @@ module _ (m : Machine) (cpus : length (m .cpus) ≡ 64) where
       by-cell false q =
           let f : fastOf e (seenAt look m) ≡ notTaken (seenAt look m) = rw (q, fastOf) in
           absurd (true≢false (sym t ∙ ap (λ (g : Fast). g .taken) f))
+
+-- what the fast path leaves, where it is taken, is the step
+pub fast-turn : (e : Event) (bytes : List ℕ) (m : Machine) (look : Look) (home : ℕ) (f : Fast) → length (m .cpus) ≡ 64 → look ≡ lookOf e (m .waiting)
+    → home ≡ placeIn 16 (cpuAt (m .cpus) (look .cpu) .cell)
+    → f ≡ fastOf e (record {
+      power = m .power;
+      boot = m .boot .cpus;
+      pages = m .boot .pool;
+      remap = m .boot .remap;
+      pool = m .pool;
+      used = m .used;
+      waiting = m .waiting;
+      cpu = cpuAt (m .cpus) (look .cpu);
+      words = commAt (m .comms) home;
+      other = cpuAt (m .cpus) (look .other);
+      asked = commAt (m .comms) (look .cell);
+    })
+    → f .taken ≡ true
+    → stay (f .answer) (withTables (set (m .comms) home (f .words)) (set (m .cpus) (look .cpu) (f .cpu)) m) ≡ step e bytes m
+unfolding seenAt putBack
+fast-turn e bytes m look home f size isLook isHome isFast t =
+    let l = lookOf e (m .waiting) in
+    let seen : _ ≡ seenAt look m = λ i. record {
+      power = m .power;
+      boot = m .boot .cpus;
+      pages = m .boot .pool;
+      remap = m .boot .remap;
+      pool = m .pool;
+      used = m .used;
+      waiting = m .waiting;
+      cpu = cpuAt (m .cpus) (look .cpu);
+      words = commAt (m .comms) (isHome i);
+      other = cpuAt (m .cpus) (look .other);
+      asked = commAt (m .comms) (look .cell);
+    } in
+    let same : f ≡ fastOf e (seenAt l m) = isFast ∙ ap (fastOf e) seen ∙ ap (λ (k : Look). fastOf e (seenAt k m)) isLook in
+    let place : home ≡ placeIn 16 (cpuAt (m .cpus) (l .cpu) .cell) = isHome ∙ ap (λ (k : Look). placeIn 16 (cpuAt (m .cpus) (k .cpu) .cell)) isLook in
+    let left : stay (f .answer) (withTables (set (m .comms) home (f .words)) (set (m .cpus) (look .cpu) (f .cpu)) m) ≡ after l m (fastOf e (seenAt l m)) = λ i. stay (same i .answer) (withTables (set (m .comms) (place i) (same i .words)) (set (m .cpus) (isLook i .cpu) (same i .cpu)) m) in
+    left ∙ fast-is-step m size e bytes (sym (ap (λ (g : Fast). g .taken) same) ∙ t)

@@ -1,6 +1,6 @@
 -- The fast path: events that change at most one CPU and one cell's words, by what they look at and what they leave. It is no rule of
 -- document 01 but a second way to the same answer: `Laws.fast-is-step` says that, wherever it is taken, it leaves what `step` leaves.
-use mathlib.Core.Bool.{Bool, true, false}
+use mathlib.Core.Bool.{true, false}
 use Prim.Native.Nat.{ℕ, zero, suc}
 use lib.Dec.{ltb, eqb}
 use lib.IntN.{ℤ, pos, negsuc}
@@ -14,7 +14,6 @@ use Rattle.machine_state.specs.declared.Event.the-variants.{Call, Store, Fault,
 use Rattle.machine_state.specs.declared.Answer.{Answer}
 use Rattle.machine_state.specs.declared.Answer.the-variants.{Code, Wait, Done, Idle}
 use Rattle.machine_state.specs.declared.Machine.{Machine}
-use Rattle.machine_state.specs.declared.Stepped.{Stepped}
 use Rattle.machine_state.specs.Machine.{commAt, cpuAt}
 use Rattle.cpu_table.specs.CpuTable.{countExit, exitCounter, callCounter}
 use Rattle.comms.specs.Comms.{storeWord, heard}
@@ -22,7 +21,7 @@ use Rattle.queries.specs.Queries.{getInfo, getState, cpuInfo}
 use Rattle.unobeyed.specs.declared.Gate.{Gate}
 use Rattle.unobeyed.specs.declared.Gate.the-variants.{Obey, Refuse}
 use Rattle.unobeyed.specs.Unobeyed.{gate, isDenied, pollGate, malformed}
-use Rattle.machine.specs.Step.{stay, withTables, callRefusal}
+use Rattle.machine.specs.Step.{withTables, callRefusal}
 use Rattle.fast_path.specs.declared.Look.{Look}
 use Rattle.fast_path.specs.declared.Seen.{Seen}
 use Rattle.fast_path.specs.declared.Fast.{Fast}

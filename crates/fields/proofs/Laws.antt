@@ -1,13 +1,13 @@
 -- Laws of fields. One law over the width: a field of m + n bytes is its low m bytes and, 256 ^ m times, the n bytes behind them.
 -- By induction on m, with the record's bytes. Assumes nothing.
-use mathlib.Core.Path.{_≡_, refl, sym, ap, _∙_, subst}
+use mathlib.Core.Path.{_≡_, refl, sym, _∙_, subst}
 use mathlib.Core.Bool.{Bool, true, false, _&&_}
 use mathlib.Core.List.{List, [], _∷_, _++_}
 use Prim.Native.Nat.{ℕ, zero, suc, _+_, _-_, _*_, _^_, _<_, _≤_}
-use native.Mathlib.Nat.{zero-add, suc-add, add-zero, add-assoc, mul-add, mul-assoc, mul-comm, mul-zero, one-mul, pow-suc}
+use native.Mathlib.Nat.{zero-add, suc-add, add-assoc, mul-add, mul-assoc, mul-comm, mul-zero, one-mul, pow-suc}
 use native.Mathlib.Numerals.{add-one}
 use native.Mathlib.Omega.{arith}
-use lib.ListN.{length, take, drop, getD, replicate, drop-of-length-le, length-append, length-take, length-replicate, List·getD-append, List·getD-eq-default, getD-replicate}
+use lib.ListN.{length, take, drop, getD, replicate, drop-of-length-le, length-append, length-take, length-replicate}
 use lib.Seq.{take-nil, drop-nil, drop-drop, drop-cons, getD-take, ext-getD}
 use lib.Dec.{leb}
 use Rattle.base.proofs.Lists.{part-rest}
@@ -62,9 +62,6 @@ padded-at n bs xs l e =
 
     past : (i : ℕ) → i < n → getD (bs ++ replicate n 0) i 0 ≡ getD bs i 0
     past i h = zero-tail bs n i
-
-pub padded-exact : (n : ℕ) (bs : List ℕ) → length bs ≡ n → padded n bs ≡ bs
-padded-exact n bs l = sym (padded-at n bs bs l (λ i h. refl))
 
 -- one turn of the walk over the bytes 0x21..0x7e at the start of a list, and its end
 pub leading-more : (bs : List ℕ) (i : ℕ) → i < length bs → graphic (getD bs i 0) ≡ true

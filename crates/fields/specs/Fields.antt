@@ -1,7 +1,7 @@
 -- Fields of a record. Document 01, "Boot and cell records": "Little-endian. All unnamed bytes are zero."
 use mathlib.Core.Bool.{Bool, true, false, _&&_}
 use mathlib.Core.List.{List, [], _∷_, _++_}
-use Prim.Native.Nat.{ℕ, zero, suc, _+_, _*_}
+use Prim.Native.Nat.{ℕ, suc, _+_, _*_}
 use lib.Dec.{leb, eqb}
 use lib.ListN.{take, drop, replicate}
 use Rattle.base.specs.Lists.{all, part}

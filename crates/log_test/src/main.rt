@@ -7,7 +7,6 @@
 // an exit counter, which no log could reach in a reasonable time, and is printed. Each line is answered twice, by a run over the log
 // and by the one-event entry, and a third line says so where the two differ.
 ghost use Prim.Native.Nat.{_≤_};
-ghost use lib.ListN.{length};
 use libc::STDIN_FILENO;
 use libc::STDOUT_FILENO;
 use machine_state::Event;

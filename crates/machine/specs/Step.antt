@@ -6,7 +6,7 @@ use Prim.Native.Nat.{ℕ, zero, suc}
 use lib.Dec.{leb, ltb, eqb}
 use lib.IntN.{ℤ, pos}
 use lib.ListN.{set}
-use Rattle.base.specs.Rules.{Refusal, firstRule, EPERM, ENOSYS}
+use Rattle.base.specs.Rules.{firstRule, EPERM, ENOSYS}
 use Rattle.machine_state.specs.declared.Cpu.{Cpu}
 use Rattle.machine_state.specs.declared.Comm.{Comm}
 use Rattle.machine_state.specs.declared.Kind.the-variants.{Start, SetLoadable, Destroy}

@@ -5,7 +5,7 @@ ghost use lib.ListN.{set};
 ghost use Rattle.machine_state.specs.Machine.{cellAt, commAt, cpuAt};
 ghost use Rattle.unobeyed.specs.Unobeyed.{malformed as malformed-of};
 ghost use Rattle.queries.specs.Queries.{getInfo, getState, cpuInfo};
-ghost use Rattle.machine.specs.Step.{stay, withTables, gateAt, stepStore, wordsAfterFault, stepFault, stepExit, callOf, callRefusal, countedCall, obeyCall, stepCall, holdingOfWaiting, stepPoll, step as step-of};
+ghost use Rattle.machine.specs.Step.{stay, withTables, gateAt, stepStore, wordsAfterFault, stepFault, stepExit, callOf, callRefusal, obeyCall, stepCall, holdingOfWaiting, stepPoll, step as step-of};
 use base::EINVAL;
 use base::ENOSYS;
 use base::EPERM;

@@ -1,11 +1,11 @@
 -- Queries. Document 01, "Calls and their return codes", rows 5 to 7 of the table. A row's cases are a table read from the top.
-use mathlib.Core.Bool.{Bool, true, false, not, _&&_, _||_}
-use mathlib.Core.List.{List, [], _∷_}
+use mathlib.Core.Bool.{true, false, not, _&&_}
+use mathlib.Core.List.{[], _∷_}
 use Prim.Native.Nat.{ℕ, _-_, _%_, _^_}
 use lib.Dec.{leb, eqb}
 use lib.IntN.{ℤ, pos}
 use lib.ListN.{getD}
-use Rattle.base.specs.Rules.{Refusal, firstRule, EPERM, EINVAL}
+use Rattle.base.specs.Rules.{firstRule, EPERM, EINVAL}
 use Rattle.cpu_set.specs.CpuSet.{member, count}
 use Rattle.system_record.specs.declared.Pool.{Pool}
 use Rattle.machine_state.specs.declared.Cpu.{Cpu}

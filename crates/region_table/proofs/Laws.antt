@@ -1,7 +1,6 @@
 -- Laws of tables of regions. A table is filled place by place: after i turns it is the table of the record's first i regions.
 -- By the lists' elements. Assumes nothing.
-use mathlib.Core.Path.{_≡_, refl, sym, ap, _∙_, subst}
-use mathlib.Core.Logic.{⊎-elim}
+use mathlib.Core.Path.{_≡_, sym, ap, _∙_}
 use mathlib.Core.Bool.{Bool, true, false}
 use mathlib.Core.List.{List, map}
 use Prim.Native.Nat.{ℕ, suc, _+_, _≤_, _<_, min}
@@ -10,7 +9,7 @@ use native.Mathlib.Omega.{arith}
 use borrow.Author.Tests.{lt-ltb, le-ltb}
 use lib.Dec.{ltb}
 use lib.ListN.{length, getD, set, take, replicate, getD-replicate, length-take}
-use lib.Seq.{ext-getD, getD-set-same, getD-set-other, getD-take}
+use lib.Seq.{getD-set-same, getD-set-other, getD-take}
 use Rattle.base.specs.Lists.{upTo}
 use Rattle.base.proofs.Tests.{equal-leb}
 use Rattle.base.proofs.Lists.{length-upTo, getD-upTo, map-upTo}

@@ -1,6 +1,6 @@
 -- The regions of a record, and the table that holds them. Document 01, "Boot and cell records": "Each region record is read from the
 -- part of the configuration that begins at its own offset."
-use mathlib.Core.Bool.{Bool, true, false}
+use mathlib.Core.Bool.{true, false}
 use mathlib.Core.List.{List, map}
 use Prim.Native.Nat.{ℕ, _+_, _*_}
 use lib.Dec.{ltb}

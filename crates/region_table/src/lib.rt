@@ -2,7 +2,6 @@
 //
 // A table has MAX_REGIONS places and a count of those in use; a count past that means all of them.
 ghost use mathlib.Core.Path.{_≡_};
-ghost use mathlib.Core.Bool.{not};
 ghost use Prim.Native.Nat.{min};
 ghost use lib.ListN.{take, drop};
 ghost use Rattle.base.specs.Lists.{all, any, pairwise};

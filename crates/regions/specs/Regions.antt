@@ -1,5 +1,5 @@
 -- Memory regions. Document 01, "Boot and cell records", the paragraph "Region (32 bytes)" and what the section says of ranges.
-use mathlib.Core.Bool.{Bool, true, false, not, _&&_, _||_}
+use mathlib.Core.Bool.{Bool, not, _&&_, _||_}
 use mathlib.Core.List.{List}
 use Prim.Native.Nat.{ℕ, _+_, _/_, _%_, _^_, min, max}
 use lib.Dec.{leb, ltb, eqb}

@@ -11,19 +11,16 @@ use mathlib.Core.List.{append-nil, append-assoc}
 use native.Mathlib.Numerals.{add-one}
 use native.Mathlib.Omega.{arith}
 use lib.Dec.{eqb, ltb, leb}
-use lib.ListN.{set, length, take, drop, getD, drop-of-length-le, length-take, length-drop, length-append}
-use lib.Seq.{take-suc, drop-cons, take-take, take-all, take-length, take-add, take-append-add, length-take-le, getD-drop, take-at, drop-at, drop-append-add, drop-drop}
+use lib.ListN.{length, take, drop, getD, drop-of-length-le, length-take, length-drop, length-append}
+use lib.Seq.{take-suc, drop-cons, take-all, take-length, take-add, take-append-add, length-take-le, getD-drop, take-at, drop-at, drop-append-add, drop-drop}
 use borrow.Author.Tests.{eq-eqb, ne-eqb, le-ltb, ltb-true, leb-true}
 use Rattle.base.proofs.Tests.{le-or-lt, holds, is-true, and-left, and-right}
 use Rattle.machine_state.specs.declared.Event.{Event}
 use Rattle.machine_state.specs.declared.Machine.{Machine}
 use Rattle.machine_state.specs.declared.Stepped.{Stepped}
-use Rattle.machine_state.specs.Machine.{bootOf, cpuAt, commAt}
-use Rattle.machine.specs.Step.{stay, step, withTables}
-use Rattle.fast_path.specs.declared.Look.{Look}
-use Rattle.fast_path.specs.declared.Fast.{Fast}
-use Rattle.fast_path.specs.FastPath.{placeIn, lookOf, seenAt, fastOf, putBack}
-use Rattle.fast_path.proofs.Laws.{after, fast-is-step}
+use Rattle.machine_state.specs.Machine.{bootOf}
+use Rattle.machine.specs.Step.{stay, step}
+use Rattle.fast_path.proofs.Laws.{after}
 use Rattle.lines.specs.Lines.{lineEvent, lineRecord}
 use Rattle.lines.proofs.Laws.{event-cut, record-cut, record-short}
 use Rattle.machine_state.specs.declared.Answer.{Answer}
@@ -386,45 +383,6 @@ module _ (log : List ℕ) (at end : ℕ) (start : Going) (m : Machine) (begun te
   goes-on-ended h answer next text′ isStep isText =
       turn-ended log at end start (going m begun text) fed short isEnd h ∙ ap (λ (l : List ℕ). ended (going m l text)) (sym isLine)
       ∙ ap (λ (s : Stepped). going (s .machine) [] (text ++ answerLine (s .answer))) (sym isStep) ∙ ap (going next []) (sym isText)
-
--- what the fast path leaves, where it is taken, is the step
-pub fast-turn : (e : Event) (bytes : List ℕ) (m : Machine) (look : Look) (home : ℕ) (f : Fast) → length (m .cpus) ≡ 64 → look ≡ lookOf e (m .waiting)
-    → home ≡ placeIn 16 (cpuAt (m .cpus) (look .cpu) .cell)
-    → f ≡ fastOf e (record {
-      power = m .power;
-      boot = m .boot .cpus;
-      pages = m .boot .pool;
-      remap = m .boot .remap;
-      pool = m .pool;
-      used = m .used;
-      waiting = m .waiting;
-      cpu = cpuAt (m .cpus) (look .cpu);
-      words = commAt (m .comms) home;
-      other = cpuAt (m .cpus) (look .other);
-      asked = commAt (m .comms) (look .cell);
-    })
-    → f .taken ≡ true
-    → stay (f .answer) (withTables (set (m .comms) home (f .words)) (set (m .cpus) (look .cpu) (f .cpu)) m) ≡ step e bytes m
-unfolding seenAt putBack
-fast-turn e bytes m look home f size isLook isHome isFast t =
-    let l = lookOf e (m .waiting) in
-    let seen : _ ≡ seenAt look m = λ i. record {
-      power = m .power;
-      boot = m .boot .cpus;
-      pages = m .boot .pool;
-      remap = m .boot .remap;
-      pool = m .pool;
-      used = m .used;
-      waiting = m .waiting;
-      cpu = cpuAt (m .cpus) (look .cpu);
-      words = commAt (m .comms) (isHome i);
-      other = cpuAt (m .cpus) (look .other);
-      asked = commAt (m .comms) (look .cell);
-    } in
-    let same : f ≡ fastOf e (seenAt l m) = isFast ∙ ap (fastOf e) seen ∙ ap (λ (k : Look). fastOf e (seenAt k m)) isLook in
-    let place : home ≡ placeIn 16 (cpuAt (m .cpus) (l .cpu) .cell) = isHome ∙ ap (λ (k : Look). placeIn 16 (cpuAt (m .cpus) (k .cpu) .cell)) isLook in
-    let left : stay (f .answer) (withTables (set (m .comms) home (f .words)) (set (m .cpus) (look .cpu) (f .cpu)) m) ≡ after l m (fastOf e (seenAt l m)) = λ i. stay (same i .answer) (withTables (set (m .comms) (place i) (same i .words)) (set (m .cpus) (isLook i .cpu) (same i .cpu)) m) in
-    left ∙ fast-is-step m size e bytes (sym (ap (λ (g : Fast). g .taken) same) ∙ t)
 
 -- the end of a log: no line, or one more
 pub end-none : (m : Machine) (begun : List ℕ) → begun ≡ [] → finished (going m begun []) ≡ []

@@ -1,6 +1,6 @@
 -- A log that comes in pieces: what is kept between two of them. `Laws.feed-append` says that two pieces are fed as one, `Laws.fed-is-replay`
 -- that the text written is that of the log's lines, and `Laws.replay-is` the same of the whole output.
-use mathlib.Core.Bool.{Bool, true, false}
+use mathlib.Core.Bool.{true, false}
 use mathlib.Core.List.{List, [], _∷_, _++_}
 use Prim.Native.Nat.{ℕ, suc}
 use lib.Dec.{eqb}

@@ -1,12 +1,12 @@
 -- The system record. Document 01, "Boot and cell records": "System record: 0 mark `TSS`, ..", and boot's answers.
-use mathlib.Core.Bool.{Bool, true, false, not, _&&_, _||_}
+use mathlib.Core.Bool.{Bool, not, _&&_, _||_}
 use mathlib.Core.List.{List, [], _∷_}
 use Prim.Native.Nat.{ℕ, _+_, _-_, _*_, _^_}
 use lib.Dec.{leb, ltb, eqb}
 use lib.ListN.{length, take}
 use lib.IntN.{ℤ, pos}
 use Rattle.base.specs.Lists.{all, pairwise, part, same}
-use Rattle.base.specs.Rules.{Refusal, firstRule, EINVAL, ERANGE, ENOMEM}
+use Rattle.base.specs.Rules.{firstRule, EINVAL, ERANGE, ENOMEM}
 use Rattle.cpu_set.specs.CpuSet.{isEmpty, below}
 use Rattle.fields.specs.Fields.{u16, u32, u64, zeros, isName, padded}
 use Rattle.regions.specs.declared.MemRegion.{MemRegion}

@@ -1,5 +1,5 @@
 -- The text of answers. Document 01, "Replay program": "Prints `boot N` .. then per line `code N`, `wait C`, `done` or the word above".
-use mathlib.Core.Bool.{Bool, true, false}
+use mathlib.Core.Bool.{true, false}
 use mathlib.Core.List.{List, [], _∷_, _++_}
 use Prim.Native.Nat.{ℕ, zero, suc, _+_, _/_, _%_}
 use lib.Dec.{ltb}

@@ -1,9 +1,9 @@
 -- Events that are not obeyed. Document 01, the section of that name: the words and when they apply, tested in the table's order.
 use mathlib.Core.Bool.{Bool, true, false, not, _&&_, _||_}
-use mathlib.Core.List.{List, [], _∷_}
+use mathlib.Core.List.{[], _∷_}
 use Prim.Native.Nat.{ℕ}
 use lib.Dec.{ltb, eqb}
-use Rattle.base.specs.Rules.{Refusal, firstRule}
+use Rattle.base.specs.Rules.{firstRule}
 use Rattle.cpu_set.specs.CpuSet.{member}
 use Rattle.machine_state.specs.declared.Cpu.{Cpu}
 use Rattle.machine_state.specs.declared.Comm.{Comm}

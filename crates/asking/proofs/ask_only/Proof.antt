@@ -1,5 +1,5 @@
 -- `asking::ask_only` meets its contract: each arm is its case of the definition. Assumes nothing.
-use mathlib.Core.Path.{_≡_, sym, ap}
+use mathlib.Core.Path.{sym, ap}
 use Rattle.machine_state.specs.declared.Kind.{Kind}
 use Rattle.asking.specs.Asking.{askOnly}
 use borrow.Author.Needs.{needs}

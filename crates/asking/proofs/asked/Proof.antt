@@ -1,5 +1,5 @@
 -- `asking::asked` meets its contract: by whether it is Destroy and another cell is locked. Assumes nothing.
-use mathlib.Core.Path.{_≡_, sym, ap₂, _∙_}
+use mathlib.Core.Path.{sym, ap₂, _∙_}
 use mathlib.Core.Bool.{Bool, _&&_}
 use Rattle.asking.proofs.Laws.{asked-locked, asked-free}
 use borrow.Author.Needs.{needs}

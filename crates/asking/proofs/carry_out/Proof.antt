@@ -1,5 +1,5 @@
 -- `asking::carry_out` meets its contract: each arm is its case of the definition, with what its effect ensures. Assumes nothing.
-use mathlib.Core.Path.{_≡_, sym, ap, _∙_}
+use mathlib.Core.Path.{sym, ap, _∙_}
 use lib.IntN.{pos}
 use Rattle.machine_state.specs.declared.Kind.{Kind}
 use Rattle.machine_state.specs.declared.Kind.the-variants.{Destroy}

@@ -1,5 +1,5 @@
 -- `asking::poll_call` meets its contract: by whether a call waits. Assumes nothing.
-use mathlib.Core.Path.{_≡_, sym, ap, _∙_}
+use mathlib.Core.Path.{sym, ap, _∙_}
 use Rattle.machine_state.specs.declared.Waiting.{Waiting}
 use Rattle.asking.specs.Asking.{pollCall}
 use borrow.Author.Needs.{needs}

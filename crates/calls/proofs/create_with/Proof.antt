@@ -1,5 +1,5 @@
 -- `calls::create_with` meets its contract: by whether Create is refused. Assumes nothing.
-use mathlib.Core.Path.{_≡_, ap, _∙_}
+use mathlib.Core.Path.{ap, _∙_}
 use lib.IntN.{ℤ}
 use Rattle.effects.specs.declared.Core.{Core}
 use Rattle.create_rules.specs.CreateRules.{createRefusal}

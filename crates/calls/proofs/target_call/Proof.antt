@@ -1,5 +1,5 @@
 -- `calls::target_call` meets its contract: by whether the call is refused. Assumes nothing.
-use mathlib.Core.Path.{_≡_, ap, _∙_}
+use mathlib.Core.Path.{ap, _∙_}
 use lib.IntN.{ℤ}
 use Rattle.calls.specs.Calls.{endNow, targetCall}
 use Rattle.calls.proofs.Laws.{back, refused, accepted, bits-zero, bits-other, asks}

@@ -1,7 +1,7 @@
 -- `cell_table::holding_all` meets its contract. The loop's invariant: it is what the live cells from i up hold, at most 18 pages each.
 -- Assumes nothing.
-use mathlib.Core.Path.{_≡_, refl, ap, _∙_}
-use Prim.Native.Nat.{ℕ, _*_, _-_, _≤_}
+use mathlib.Core.Path.{_≡_, ap, _∙_}
+use Prim.Native.Nat.{_*_, _-_, _≤_}
 use native.Mathlib.Omega.{arith}
 use Rattle.effects.specs.declared.Holding.{Holding}
 use Rattle.cell_table.specs.CellTable.{holdingOf, together}

@@ -1,5 +1,4 @@
 -- `comms::is_live` meets its contract: no cell has an ID from 16 up, and below it is the ID's bit. Assumes nothing.
-use mathlib.Core.Path.{_≡_}
 use borrow.Author.Tests.{lt-ltb, le-ltb}
 use Rattle.machine_state.specs.Machine.{live}
 use borrow.Author.Needs.{needs}

@@ -1,5 +1,4 @@
 -- `comms::is_messaged` meets its contract: no cell has an ID from 16 up, and else it is the definition. Assumes nothing.
-use mathlib.Core.Path.{_≡_}
 use borrow.Author.Tests.{le-ltb}
 use Rattle.machine_state.specs.Machine.{live}
 use Rattle.comms.specs.Comms.{messaged}

@@ -1,7 +1,4 @@
 -- `comms::store_word` meets its contract: by the word. Assumes nothing.
-use mathlib.Core.Path.{_≡_, refl, ap, sym, _∙_}
-use Prim.Native.Nat.{ℕ, zero, suc}
-use Rattle.machine_state.specs.declared.Comm.{Comm}
 use Rattle.comms.specs.Comms.{storeWord, withState}
 use Rattle.comms.proofs.Laws.{store-state}
 use Rattle.comms.proofs.store_word.Statement.{statement}

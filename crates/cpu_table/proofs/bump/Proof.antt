@@ -1,6 +1,5 @@
 -- `cpu_table::bump` meets its contract: the sum wraps as `wrapping_add_u32` does, and there is no counter from 6 up. Assumes nothing.
-use mathlib.Core.Path.{ap, sym, _∙_}
-use Prim.Native.Nat.{ℕ}
+use mathlib.Core.Path.{ap, sym}
 use lib.ListN.{set}
 use lib.Seq.{set-out}
 use native.Mathlib.Omega.{arith}

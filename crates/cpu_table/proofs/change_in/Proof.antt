@@ -1,5 +1,5 @@
 -- `cpu_table::change_in` meets its contract: by whether the CPU is in the set. Assumes nothing.
-use mathlib.Core.Path.{_≡_, sym, _∙_}
+use mathlib.Core.Path.{sym, _∙_}
 use Rattle.cpu_table.specs.CpuTable.{changeIn}
 use borrow.Author.Needs.{needs}
 use Rattle.cpu_table.proofs.change_in.Statement.{statement}

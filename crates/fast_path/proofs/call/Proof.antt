@@ -1,6 +1,5 @@
 -- `fast_path::call` meets its contract: by the call's gate; an obeyed call is counted first. Assumes nothing.
-use mathlib.Core.Path.{_≡_, sym, ap, _∙_}
-use Rattle.machine_state.specs.declared.Cpu.{Cpu}
+use mathlib.Core.Path.{sym, ap, _∙_}
 use Rattle.fast_path.specs.FastPath.{fastCounted, fastEvent}
 use Rattle.fast_path.proofs.Parts.{refuses, obeys}
 use borrow.Author.Needs.{needs}

@@ -1,5 +1,5 @@
 -- `fast_path::counted` meets its contract: by whether the code is refused. Assumes nothing.
-use mathlib.Core.Path.{_≡_, ap, _∙_}
+use mathlib.Core.Path.{ap, _∙_}
 use lib.IntN.{ℤ}
 use Rattle.machine_state.specs.declared.Answer.the-variants.{Code}
 use Rattle.calls.proofs.Laws.{back, bits-zero, bits-other}

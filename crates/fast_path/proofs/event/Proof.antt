@@ -1,5 +1,5 @@
 -- `fast_path::event` meets its contract: each arm is its case of the definition. Assumes nothing.
-use mathlib.Core.Path.{_≡_, _∙_}
+use mathlib.Core.Path.{_∙_}
 use Rattle.fast_path.specs.FastPath.{fastEvent}
 use Rattle.fast_path.proofs.Parts.{arm}
 use borrow.Author.Needs.{needs}

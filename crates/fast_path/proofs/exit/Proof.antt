@@ -1,5 +1,5 @@
 -- `fast_path::exit` meets its contract: by the exit's gate; an obeyed exit has a kind below 4. Assumes nothing.
-use mathlib.Core.Path.{_≡_, sym, ap, _∙_}
+use mathlib.Core.Path.{sym, ap, _∙_}
 use mathlib.Core.Bool.{false}
 use lib.Dec.{ltb}
 use Rattle.machine_state.specs.declared.Cpu.{Cpu}

@@ -1,5 +1,5 @@
 -- `fast_path::fast_step` meets its contract: by whether the CPU's cell is a place of the table. Assumes nothing.
-use mathlib.Core.Path.{_≡_, _∙_}
+use mathlib.Core.Path.{_∙_}
 use borrow.Author.Tests.{lt-ltb, le-ltb}
 use Rattle.fast_path.specs.FastPath.{fastOf}
 use borrow.Author.Needs.{needs}

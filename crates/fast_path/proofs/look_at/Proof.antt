@@ -1,5 +1,5 @@
 -- `fast_path::look_at` meets its contract: each arm is its case of the definition. Assumes nothing.
-use mathlib.Core.Path.{_≡_, _∙_}
+use mathlib.Core.Path.{_∙_}
 use Rattle.fast_path.specs.FastPath.{placeIn, lookOf}
 use Rattle.fast_path.proofs.Parts.{look-arm, looked}
 use borrow.Author.Needs.{needs}

@@ -1,7 +1,6 @@
 -- `fast_path::look_poll` meets its contract: by whether a call waits. Assumes nothing.
-use mathlib.Core.Path.{_≡_, sym, ap, _∙_}
+use mathlib.Core.Path.{sym, ap, _∙_}
 use Rattle.machine_state.specs.declared.Event.the-variants.{Poll}
-use Rattle.machine_state.specs.declared.Waiting.{Waiting}
 use Rattle.fast_path.specs.FastPath.{placeIn, lookOf}
 use borrow.Author.Needs.{needs}
 use Rattle.fast_path.proofs.look_poll.Statement.{statement}

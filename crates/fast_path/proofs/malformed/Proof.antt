@@ -1,5 +1,5 @@
 -- `fast_path::malformed` meets its contract: it is the definition. Assumes nothing.
-use mathlib.Core.Path.{_≡_, ap, _∙_}
+use mathlib.Core.Path.{ap, _∙_}
 use Rattle.machine_state.specs.declared.Answer.{Answer}
 use Rattle.fast_path.specs.FastPath.{leave, fastEvent}
 use borrow.Author.Needs.{needs}

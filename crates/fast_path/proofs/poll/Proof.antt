@@ -1,5 +1,5 @@
 -- `fast_path::poll` meets its contract: by the poll's gate. Assumes nothing.
-use mathlib.Core.Path.{_≡_, sym, _∙_}
+use mathlib.Core.Path.{sym, _∙_}
 use Rattle.fast_path.specs.FastPath.{fastEvent}
 use Rattle.fast_path.proofs.Parts.{refuses, obeys}
 use borrow.Author.Needs.{needs}

@@ -1,6 +1,6 @@
 -- `fast_path::store` meets its contract: by the store's gate. Assumes nothing.
-use mathlib.Core.Path.{_≡_, sym, ap, _∙_}
-use mathlib.Core.Bool.{Bool, false}
+use mathlib.Core.Path.{sym, ap, _∙_}
+use mathlib.Core.Bool.{false}
 use Rattle.machine_state.specs.declared.Answer.the-variants.{Done}
 use Rattle.unobeyed.specs.Unobeyed.{gate}
 use Rattle.fast_path.specs.FastPath.{leave, fastEvent}

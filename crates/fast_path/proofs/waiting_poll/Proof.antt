@@ -1,5 +1,5 @@
 -- `fast_path::waiting_poll` meets its contract: by whether the cell waited for is heard. Assumes nothing.
-use mathlib.Core.Path.{_≡_, sym, ap, _∙_}
+use mathlib.Core.Path.{sym, ap, _∙_}
 use borrow.Author.Tests.{lt-ltb, le-ltb}
 use Rattle.machine_state.specs.declared.Waiting.{Waiting}
 use Rattle.fast_path.specs.FastPath.{fastWaiting}

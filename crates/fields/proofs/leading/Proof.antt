@@ -4,9 +4,7 @@ use borrow.Author.Needs.{needs}
 use mathlib.Core.Path.{_≡_, sym, _∙_}
 use Prim.Native.Nat.{_≤_, _-_, _+_}
 use native.Mathlib.Nat.{zero-add}
-use native.Mathlib.Omega.{arith}
 use lib.ListN.{length, drop}
-use denote.Ref.{now}
 use Rattle.fields.specs.Fields.{leading}
 use Rattle.fields.proofs.Laws.{leading-more, leading-stop, leading-end}
 use Rattle.fields.proofs.leading.Statement.{statement}

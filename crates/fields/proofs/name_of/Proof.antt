@@ -6,7 +6,6 @@ use native.Mathlib.Omega.{arith}
 use borrow.Author.Count.{below-none, below-more}
 use lib.ListN.{length, getD, length-set}
 use lib.Seq.{getD-set-same, getD-set-other}
-use denote.Ref.{now}
 use Rattle.fields.proofs.Laws.{padded-at}
 use borrow.Author.Needs.{needs}
 use Rattle.fields.proofs.name_of.Statement.{statement}

@@ -2,7 +2,6 @@
 -- Assumes nothing.
 use borrow.Author.Needs.{needs}
 use mathlib.Core.Path.{sym, _∙_}
-use denote.Ref.{now}
 use Rattle.fields.proofs.Laws.{field-halves, field-byte, field-past}
 use Rattle.fields.proofs.u16_at.Statement.{statement}
 use Rattle.fields.proofs.u16_at.Tie as tie

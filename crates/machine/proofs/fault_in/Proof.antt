@@ -1,5 +1,5 @@
 -- `machine::fault_in` meets its contract: by the fault's gate. Assumes nothing.
-use mathlib.Core.Path.{_≡_, sym, ap, ap₂, _∙_}
+use mathlib.Core.Path.{sym, ap, _∙_}
 use mathlib.Core.List.{List}
 use lib.ListN.{set}
 use Rattle.machine_state.specs.declared.Comm.{Comm}

@@ -1,5 +1,5 @@
 -- `machine::store_in` meets its contract: by the store's gate. Assumes nothing.
-use mathlib.Core.Path.{_≡_, sym, ap, ap₂, _∙_}
+use mathlib.Core.Path.{sym, ap, _∙_}
 use mathlib.Core.Bool.{Bool, false}
 use lib.ListN.{set}
 use mathlib.Core.List.{List}

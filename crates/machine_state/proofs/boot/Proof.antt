@@ -1,7 +1,7 @@
 -- `machine_state::boot` meets its contract: the machine is on where the record's code is 0, and off where not. The code is told by its
 -- bits. Assumes nothing.
 use mathlib.Core.Path.{_≡_, sym, ap, _∙_}
-use lib.IntN.{ℤ, pos}
+use lib.IntN.{pos}
 use mir.Syntax.{w32}
 use mir.Val.{toZ, ofZ}
 use mir.Facts.{toZ-ofZ}

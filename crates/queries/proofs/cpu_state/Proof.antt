@@ -1,5 +1,4 @@
 -- `queries::cpu_state` meets its contract: by the failed mark. Assumes nothing.
-use mathlib.Core.Path.{_≡_}
 use Rattle.queries.specs.Queries.{cpuState}
 use Rattle.queries.proofs.cpu_state.Statement.{statement}
 use Rattle.queries.proofs.cpu_state.Tie as tie

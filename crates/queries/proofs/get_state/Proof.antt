@@ -1,5 +1,5 @@
 -- `queries::get_state` meets its contract: each test is a row of the table, in its order. Assumes nothing.
-use mathlib.Core.Path.{_≡_, sym, ap, _∙_}
+use mathlib.Core.Path.{sym, ap, _∙_}
 use borrow.Author.Tests.{eq-eqb, ne-eqb, le-leb, lt-leb}
 use Rattle.base.proofs.Rules.{rule-holds, rule-passed, no-rule}
 use mathlib.Core.Bool.{not}

@@ -3,7 +3,6 @@ use mathlib.Core.Path.{_≡_, refl, _∙_}
 use Prim.Native.Nat.{_≤_, _-_}
 use native.Mathlib.Omega.{arith}
 use lib.ListN.{length, length-set}
-use denote.Ref.{now}
 use Rattle.region_table.specs.Tables.{maxRegions, regionAt}
 use Rattle.region_table.proofs.Laws.{Filled, filled-none, filled-more, filled-all}
 use borrow.Author.Needs.{needs}

@@ -1,9 +1,9 @@
 -- `replay::replay_some` meets its contract, which is to come to an end: what the last line wrote lies inside the buffer. Assumes nothing.
-use mathlib.Core.Path.{_≡_, sym, subst}
+use mathlib.Core.Path.{sym, subst}
 use mathlib.Core.List.{[]}
 use Prim.Native.Nat.{ℕ, _≤_}
 use lib.ListN.{length, take}
-use Rattle.texts.specs.Texts.{putLine, putCount}
+use Rattle.texts.specs.Texts.{putCount}
 use Rattle.texts.proofs.Laws.{count-fits}
 use Rattle.replay_log.specs.Feed.{goingOf, finished}
 use Rattle.replay_log.proofs.Laws.{finished-short}

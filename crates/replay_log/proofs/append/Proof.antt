@@ -2,10 +2,9 @@
 use mathlib.Core.Path.{_≡_, sym, ap, _∙_}
 use mathlib.Core.List.{List, _++_}
 use Prim.Native.Nat.{ℕ, _≤_, _<_, _-_, _+_, min}
-use native.Mathlib.Nat.{le-trans}
 use native.Mathlib.Numerals.{add-one}
 use native.Mathlib.Omega.{arith}
-use lib.ListN.{length, take, drop, getD, set}
+use lib.ListN.{length, take, getD, set}
 use lib.Seq.{paste, paste-zero, paste-suc, length-paste, take-paste}
 use Rattle.replay_log.proofs.Laws.{min-fits, appended}
 use borrow.Author.Needs.{needs}

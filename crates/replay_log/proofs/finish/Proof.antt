@@ -7,7 +7,7 @@ use lib.ListN.{length, take, length-take}
 use borrow.Author.Needs.{needs, length-unmapped}
 use Rattle.machine_state.specs.declared.Event.{Event}
 use Rattle.machine.specs.Step.{step}
-use Rattle.texts.specs.Texts.{answerLine, putLine, putCount}
+use Rattle.texts.specs.Texts.{putLine, putCount}
 use Rattle.replay_log.specs.Feed.{goingOf, finished, keptBytes}
 use Rattle.replay_log.proofs.Laws.{going, kept-bytes, whole-part, record-read, end-none, end-some, put-none}
 use Rattle.replay_log.proofs.finish.Statement.{statement}

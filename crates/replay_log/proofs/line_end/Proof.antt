@@ -2,7 +2,6 @@
 -- count. Assumes nothing.
 use mathlib.Core.Path.{_≡_, refl, sym, _∙_}
 use Prim.Native.Nat.{_≤_, _-_, _+_}
-use native.Mathlib.Omega.{arith}
 use lib.ListN.{length, drop}
 use Rattle.replay_log.specs.Feed.{lineLength}
 use Rattle.replay_log.proofs.Laws.{length-more, length-stop, length-end}

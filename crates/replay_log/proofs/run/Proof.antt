@@ -2,20 +2,19 @@
 -- text that stand in the locals. A turn takes the bytes up to the next line feed, or to the end of the piece; where the line ends, its event
 -- is answered by the fast path, which is the step wherever it is taken, or by the step itself. Assumes nothing.
 use mathlib.Core.Path.{_≡_, refl, sym, ap, ap₂, _∙_, subst}
-use mathlib.Core.Bool.{Bool, true, false, _&&_}
-use mathlib.Core.List.{List, [], _∷_, _++_}
-use Prim.Native.Nat.{ℕ, _≤_, _<_, _-_, _+_, min}
-use Prim.Native.Nat.{_^_, zero-le}
+use mathlib.Core.Bool.{_&&_}
+use mathlib.Core.List.{List, [], _++_}
+use Prim.Native.Nat.{ℕ, _≤_, _-_, _+_, min}
+use Prim.Native.Nat.{zero-le}
 use native.Mathlib.Omega.{arith}
 use lib.Dec.{ltb, leb}
 use lib.ListN.{length, take, drop, set, length-set, length-map}
-use Rattle.machine_state.specs.declared.Cpu.{Cpu}
-use Rattle.machine_state.specs.declared.Machine.{Machine}
 use Rattle.machine_state.specs.declared.Event.{Event}
 use Rattle.machine.specs.Step.{step, stay, withTables}
 use Rattle.lines.specs.Lines.{lineRecord}
+use Rattle.fast_path.proofs.Laws.{fast-turn}
 use Rattle.replay_log.specs.Feed.{feed, goingOf, keptBytes}
-use Rattle.replay_log.proofs.Laws.{going, begun-short, less-end, less-turn, next-inside, sum-fits, drop-further, whole-part, may-go, kept-bytes, goes-open, goes-on-ended, fast-turn, record-inside, record-size, record-read, put-inside, put-text, put-rest, put-size}
+use Rattle.replay_log.proofs.Laws.{going, begun-short, less-end, less-turn, next-inside, sum-fits, drop-further, whole-part, may-go, kept-bytes, goes-open, goes-on-ended, record-inside, record-size, record-read, put-inside, put-text, put-rest, put-size}
 use borrow.Author.Needs.{needs, length-unmapped}
 use Rattle.replay_log.proofs.run.Statement.{statement}
 use Rattle.replay_log.proofs.run.Tie as tie

@@ -1,5 +1,5 @@
 -- `system_record::boot_answer` meets its contract: each test is a rule of boot's table, in its order. Assumes nothing.
-use mathlib.Core.Path.{_≡_, ap, _∙_}
+use mathlib.Core.Path.{_∙_}
 use Rattle.base.proofs.Rules.{rule-holds, rule-passed, no-rule}
 use Rattle.system_record.specs.SystemRecord.{bootAnswer}
 use borrow.Author.Needs.{needs}

@@ -1,5 +1,5 @@
 -- `system_record::system_of` meets its contract: each value is what its reader ensures. Assumes nothing.
-use mathlib.Core.Path.{ap, ap₂, _∙_}
+use mathlib.Core.Path.{ap, _∙_}
 use Prim.Native.Nat.{ℕ}
 use denote.Ref.{now}
 use Rattle.fields.specs.Fields.{padded}
