@@ -1,4 +1,4 @@
-// Asks the page questions and the detection leaves, by a script from standard input, and prints
+// Asks the page questions, the communication region and the detection leaves, by a script from standard input, and prints
 // each line with its answer. The file `stdout` has the answers that document 01 gives.
 //
 //   boot HEX                       starts a machine from a system record
@@ -9,6 +9,8 @@
 //   owner PAGE                     the owner of a physical page
 //   touch PAGE                     whether root may touch it
 //   map CELL PAGE                  what a cell page is mapped to
+//   word CELL WORD                 a word of a cell's communication region
+//   read CELL OFFSET               a byte of it
 //   leaf NUMBER EAX EBX ECX EDX    the registers of a leaf, and those of the processor itself
 //   # ..                           a remark
 //
@@ -91,6 +93,8 @@ fn asked(m: Machine, s: &[u8]) -> Machine {
         b'o' => show::owner(pages::owner_of(m, PhysPage(a))),
         b't' => show::truth(pages::root_may_touch(m, PhysPage(a))),
         b'm' => show::mapping(pages::mapping_of(m, a, CellPage(b))),
+        b'w' => show::word(comm_region::region_word(m, a, b)),
+        b'r' => show::byte(comm_region::region_byte(m, a, b)),
         b'l' => leaf(s),
         _ => (),
     }

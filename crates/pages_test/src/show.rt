@@ -1,4 +1,6 @@
 // Answers as text, each after a colon.
+use comm_region::RegionByte;
+use comm_region::RegionWord;
 use detection::Leaf;
 use machine_state::Answer;
 use pages::Access;
@@ -42,9 +44,7 @@ pub fn mapping(m: Mapping) {
         Mapping::Comm => {
             io::write_all(1, b": comm");
         }
-        Mapping::Nothing => {
-            io::write_all(1, b": nothing");
-        }
+        Mapping::Nothing => nothing(),
     }
 }
 
@@ -59,6 +59,30 @@ fn flags(a: Access) {
     }
     if a.execute {
         io::write_all(1, b"x");
+    }
+}
+
+// A number that was read, after a colon.
+fn shown(n: u64) {
+    io::write_all(1, b":");
+    hex(n);
+}
+
+fn nothing() {
+    io::write_all(1, b": nothing");
+}
+
+pub fn word(w: RegionWord) {
+    match w {
+        RegionWord::Word(n) => shown(n as u64),
+        RegionWord::Nothing => nothing(),
+    }
+}
+
+pub fn byte(b: RegionByte) {
+    match b {
+        RegionByte::Byte(n) => shown(n as u64),
+        RegionByte::Nothing => nothing(),
     }
 }
 
