@@ -1,1 +1,2 @@
 pub mod ReadingRoom
+pub mod Refused
