@@ -1,4 +1,5 @@
-// The manager's one entry: a machine, one event, one answer.
+// Any event on any machine: its answer and the machine after it. The shim's entry, `manager::step`,
+// comes here with the events that are not for the fast path.
 ghost use mathlib.Core.Path.{_≡_};
 ghost use Prim.Native.Nat.{_<_};
 ghost use lib.ListN.{set};

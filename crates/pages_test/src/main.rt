@@ -15,8 +15,6 @@
 //   # ..                           a remark
 //
 // Until the first `boot` there is no started machine. Numbers are decimal, or after 0x hexadecimal.
-ghost use Prim.Native.Nat.{_≤_};
-ghost use lib.ListN.{length};
 use detection::Leaf;
 use machine_state::Event;
 use machine_state::Machine;
@@ -37,29 +35,13 @@ fn run(s: &[u8]) {
     let mut m = unbooted();
     let mut at = 0;
     while at < s.len() {
-        let end = find(s, at, b'\n');
+        let end = bytes::scan::find(s, at, s.len(), b'\n');
         m = line(m, &s[at..end]);
         if s.len() <= end {
             return;
         }
         at = end + 1;
     }
-}
-
-// The index of the first `b` from `from` on, or the length.
-fn find(s: &[u8], from: usize, b: u8) -> usize
-    requires { ⌜ from ≤ length (now s) ⌝ }
-    ensures { λ r. ⌜ from ≤ r ⌝ }
-    ensures { λ r. ⌜ r ≤ length (now (s .entry)) ⌝ }
-{
-    let mut i = from;
-    while i < s.len() {
-        if s[i] == b {
-            return i;
-        }
-        i += 1;
-    }
-    i
 }
 
 // A machine before its boot.

@@ -13,7 +13,7 @@ fn hex(n: u64) {
     io::print_hex(1, n, 1);
 }
 
-pub fn owner(o: Owner) {
+pub(crate) fn owner(o: Owner) {
     match o {
         Owner::Hypervisor => {
             io::write_all(1, b": hypervisor");
@@ -34,7 +34,7 @@ pub fn owner(o: Owner) {
     }
 }
 
-pub fn mapping(m: Mapping) {
+pub(crate) fn mapping(m: Mapping) {
     match m {
         Mapping::Page(page, access) => {
             io::write_all(1, b": page");
@@ -72,21 +72,21 @@ fn nothing() {
     io::write_all(1, b": nothing");
 }
 
-pub fn word(w: RegionWord) {
+pub(crate) fn word(w: RegionWord) {
     match w {
         RegionWord::Word(n) => shown(n as u64),
         RegionWord::Nothing => nothing(),
     }
 }
 
-pub fn byte(b: RegionByte) {
+pub(crate) fn byte(b: RegionByte) {
     match b {
         RegionByte::Byte(n) => shown(n as u64),
         RegionByte::Nothing => nothing(),
     }
 }
 
-pub fn truth(yes: bool) {
+pub(crate) fn truth(yes: bool) {
     if yes {
         io::write_all(1, b": yes");
     } else {
@@ -94,7 +94,7 @@ pub fn truth(yes: bool) {
     }
 }
 
-pub fn leaf(l: Leaf) {
+pub(crate) fn leaf(l: Leaf) {
     io::write_all(1, b":");
     hex(l.eax as u64);
     hex(l.ebx as u64);
@@ -103,7 +103,7 @@ pub fn leaf(l: Leaf) {
 }
 
 // A return code; `?` for one that the script does not reach.
-pub fn code(n: i32) {
+pub(crate) fn code(n: i32) {
     match n {
         0 => io::write_all(1, b": code 0"),
         1 => io::write_all(1, b": code 1"),
@@ -116,7 +116,7 @@ pub fn code(n: i32) {
 }
 
 // An event's answer; which word tells why it was not obeyed is not this script's question.
-pub fn answer(a: Answer) {
+pub(crate) fn answer(a: Answer) {
     match a {
         Answer::Code(n) => code(n),
         Answer::Wait(id) => {

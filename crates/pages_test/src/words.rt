@@ -17,17 +17,17 @@ pub struct Record {
 }
 
 // The byte at a place of a line; 0 past its end.
-pub fn byte(s: &[u8], at: usize) -> u8 {
+pub(crate) fn byte(s: &[u8], at: usize) -> u8 {
     if at < s.len() { s[at] } else { 0 }
 }
 
 // The first `n` bytes, or all of them where there are fewer.
-pub fn first(s: &[u8], n: usize) -> &[u8] {
+pub(crate) fn first(s: &[u8], n: usize) -> &[u8] {
     if n < s.len() { &s[0..n] } else { s }
 }
 
 // What is printed of a line: all of it but a record.
-pub fn head(s: &[u8]) -> &[u8] {
+pub(crate) fn head(s: &[u8]) -> &[u8] {
     if byte(s, 0) == b'b' {
         return first(s, 4);
     }
@@ -38,7 +38,7 @@ pub fn head(s: &[u8]) -> &[u8] {
 }
 
 // The number of word `k`; 0 where there is none.
-pub fn number(s: &[u8], k: usize) -> u64 {
+pub(crate) fn number(s: &[u8], k: usize) -> u64 {
     let mut r = Reading {
         word: 0,
         value: 0,
@@ -53,7 +53,7 @@ pub fn number(s: &[u8], k: usize) -> u64 {
 }
 
 // The same, below 2^32.
-pub fn number32(s: &[u8], k: usize) -> u32 {
+pub(crate) fn number32(s: &[u8], k: usize) -> u32 {
     (number(s, k) % 0x1_0000_0000) as u32
 }
 
@@ -100,7 +100,7 @@ fn value(b: u8) -> u64
 }
 
 // The record that the last word of a line spells.
-pub fn record_of(s: &[u8]) -> Record {
+pub(crate) fn record_of(s: &[u8]) -> Record {
     let mut r = empty();
     let mut i = 0;
     while i < s.len() {

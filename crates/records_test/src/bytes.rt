@@ -7,23 +7,23 @@ pub struct Bytes {
 }
 
 // A record of no bytes, and zeros behind it.
-pub fn empty() -> Bytes {
+pub(crate) fn empty() -> Bytes {
     let b = [0; 640];
     Bytes { b, n: 0 }
 }
 
 // The same bytes, cut or grown to `n`.
-pub fn sized(r: Bytes, n: usize) -> Bytes {
+pub(crate) fn sized(r: Bytes, n: usize) -> Bytes {
     let b = r.b;
     Bytes { b, n }
 }
 
 // The first `n` bytes, or all of them where there are fewer.
-pub fn first(s: &[u8], n: usize) -> &[u8] {
+pub(crate) fn first(s: &[u8], n: usize) -> &[u8] {
     if n < s.len() { &s[0..n] } else { s }
 }
 
-pub fn put8(r: Bytes, at: usize, v: u8) -> Bytes {
+pub(crate) fn put8(r: Bytes, at: usize, v: u8) -> Bytes {
     let mut t = r;
     if at < 640 {
         t.b[at] = v;
@@ -31,7 +31,7 @@ pub fn put8(r: Bytes, at: usize, v: u8) -> Bytes {
     t
 }
 
-pub fn put16(r: Bytes, at: usize, v: u16) -> Bytes {
+pub(crate) fn put16(r: Bytes, at: usize, v: u16) -> Bytes {
     if 640 <= at {
         return r;
     }
@@ -39,7 +39,7 @@ pub fn put16(r: Bytes, at: usize, v: u16) -> Bytes {
     put8(t, at + 1, (v / 0x100) as u8)
 }
 
-pub fn put32(r: Bytes, at: usize, v: u32) -> Bytes {
+pub(crate) fn put32(r: Bytes, at: usize, v: u32) -> Bytes {
     if 640 <= at {
         return r;
     }
@@ -47,7 +47,7 @@ pub fn put32(r: Bytes, at: usize, v: u32) -> Bytes {
     put16(t, at + 2, (v / 0x1_0000) as u16)
 }
 
-pub fn put64(r: Bytes, at: usize, v: u64) -> Bytes {
+pub(crate) fn put64(r: Bytes, at: usize, v: u64) -> Bytes {
     if 640 <= at {
         return r;
     }

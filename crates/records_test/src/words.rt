@@ -29,7 +29,7 @@ pub struct Words {
 }
 
 // The record that the words of `s` make of another.
-pub fn build(record: Bytes, s: &[u8]) -> Words {
+pub(crate) fn build(record: Bytes, s: &[u8]) -> Words {
     let mut w = begin(record);
     let mut i = 0;
     while i < s.len() {

@@ -6,7 +6,7 @@ use native.Mathlib.Numerals.{add-one}
 use native.Mathlib.Omega.{arith}
 use lib.ListN.{length, take, getD, set}
 use lib.Seq.{paste, paste-zero, paste-suc, length-paste, take-paste}
-use Rattle.replay_log.proofs.Laws.{min-fits, appended}
+use Rattle.replay_log.proofs.Buffers.{min-fits, appended}
 use borrow.Author.Needs.{needs}
 use Rattle.replay_log.proofs.append.Statement.{statement}
 use Rattle.replay_log.proofs.append.Tie as tie

@@ -9,7 +9,8 @@ use Rattle.machine_state.specs.declared.Event.{Event}
 use Rattle.machine.specs.Step.{step}
 use Rattle.texts.specs.Texts.{putLine, putCount}
 use Rattle.replay_log.specs.Feed.{goingOf, finished, keptBytes}
-use Rattle.replay_log.proofs.Laws.{going, kept-bytes, whole-part, record-read, end-none, end-some, put-none}
+use Rattle.replay_log.proofs.Buffers.{kept-bytes, whole-part, record-read, put-none}
+use Rattle.replay_log.proofs.Laws.{going, end-none, end-some}
 use Rattle.replay_log.proofs.finish.Statement.{statement}
 use Rattle.replay_log.proofs.finish.Tie as tie
 

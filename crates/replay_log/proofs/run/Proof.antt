@@ -14,7 +14,8 @@ use Rattle.machine.specs.Step.{step, stay, withTables}
 use Rattle.lines.specs.Lines.{lineRecord}
 use Rattle.fast_path.proofs.Laws.{fast-turn}
 use Rattle.replay_log.specs.Feed.{feed, goingOf, keptBytes}
-use Rattle.replay_log.proofs.Laws.{going, begun-short, less-end, less-turn, next-inside, sum-fits, drop-further, whole-part, may-go, kept-bytes, goes-open, goes-on-ended, record-inside, record-size, record-read, put-inside, put-text, put-rest, put-size}
+use Rattle.replay_log.proofs.Buffers.{begun-short, less-end, less-turn, next-inside, sum-fits, drop-further, whole-part, may-go, kept-bytes, record-inside, record-size, record-read, put-inside, put-text, put-rest, put-size}
+use Rattle.replay_log.proofs.Laws.{going, goes-open, goes-on-ended}
 use borrow.Author.Needs.{needs, length-unmapped}
 use Rattle.replay_log.proofs.run.Statement.{statement}
 use Rattle.replay_log.proofs.run.Tie as tie
