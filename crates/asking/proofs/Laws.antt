@@ -1,89 +1,175 @@
--- Moving on, by whether a next cell is found: each law takes what the code's parts ensure to the definition's case. Assumes nothing.
-use mathlib.Core.Path.{_≡_, ap, _∙_, subst}
+-- Moves as rules: words that are kept at place 0 stay as they are, and each way that the code takes is the rule's where its test holds.
+-- Assumes nothing.
 use mathlib.Core.Bool.{Bool, true, false, _&&_}
-use Prim.Native.Nat.{ℕ, _≤_, _<_}
+use mathlib.Core.List.{List}
+use mathlib.Core.Path.{_≡_, refl, sym, ap, _∙_}
+use Prim.Native.Nat.{ℕ, _<_, _≤_}
+use native.Mathlib.Omega.{arith}
 use borrow.Author.Tests.{lt-ltb, le-ltb}
+use lib.Dec.{ltb}
+use lib.IntN.{ℤ, pos}
+use lib.ListN.{length}
+use lib.Seq.{set-getD}
 use Rattle.base.specs.Rules.{EPERM}
-use Rattle.machine_state.specs.declared.Kind.{Kind}
+use Rattle.cell_record.specs.declared.CellConfig.{CellConfig}
+use Rattle.machine_state.specs.declared.Answer.{Answer}
+use Rattle.machine_state.specs.declared.Answer.the-variants.{Code, Wait}
+use Rattle.machine_state.specs.declared.CallKind.{CallKind}
+use Rattle.machine_state.specs.declared.CommRegion.{CommRegion}
+use Rattle.machine_state.specs.declared.Machine.{Machine}
 use Rattle.machine_state.specs.declared.Stage.{Stage}
-use Rattle.machine_state.specs.declared.Answer.the-variants.{Wait}
-use Rattle.machine_state.specs.Machine.{commAt, maxCells}
-use Rattle.comms.specs.Comms.{nextCell, lockedBut, heard, consents}
-use Rattle.effects.specs.declared.Core.{Core}
-use Rattle.effects.specs.declared.Holding.{Holding}
-use Rattle.asking.specs.declared.Change.{Change}
-use Rattle.asking.specs.declared.Change.the-variants.{Keep}
-use Rattle.asking.specs.declared.Moved.{Moved}
-use Rattle.asking.specs.Asking.{send, finish, endCode, tell, isDestroy, carryOut, asked, askOnly, ask, hear, pollCell}
+use Rattle.machine_state.specs.declared.Stepped.{Stepped}
+use Rattle.machine_state.specs.declared.Waiting.{Waiting}
+use Rattle.machine_state.specs.declared.Waiting.the-variants.{NoCall, Pending}
+use Rattle.machine_state.specs.Machine.{pastComm, commIn, maxCells}
+use Rattle.rules.specs.State.{commAt, noId, withComm, withWaiting, answered}
+use Rattle.rules.specs.Create.{otherCellLocked}
+use Rattle.rules.specs.Effects.{effect}
+use Rattle.rules.specs.Asking.{nextToMessage, asks, tells, everyCell, isDestroy, shutdownRequest, waitFor, finished, endCode, tell, carryOut, noneToAsk, ask, isHeard, consents, hear, pollCell}
+use Rattle.comms.specs.declared.WordsChange.the-variants.{Keep, Message}
+use Rattle.comms.specs.declared.Whom.the-variants.{EveryoneBut}
+use Rattle.comms.specs.Comms.{wordsOf, wordsAt, among}
+use Rattle.asking.specs.declared.Effect.{Effect}
+use Rattle.asking.specs.declared.Effect.the-variants.{NoEffect, Comes}
+use Rattle.asking.specs.declared.Move.{Move}
+use Rattle.asking.specs.Moves.{effectOf, moved, Moves, AnyMachine, tellNext}
+use Rattle.asking.proofs.Told.{told-after}
 
-abbrev stageAt : ℕ → Bool → ℕ → Stage
-stageAt target telling cell = record { target = target; cell = cell; telling = telling }
+-- ---- moves
 
--- the outcome of a message to the cell that was found
-sent : (kind : Kind) (target : ℕ) (telling : Bool) (code : ℕ) (change : Change) (c core : Core) (next cell : ℕ) → next ≡ cell
-    → core ≡ send kind (stageAt target telling next) code c
-    → _≡_ {A = Moved} (record { core = core; answer = Wait next; change = change })
-    (record { core = send kind (stageAt target telling cell) code c; answer = Wait cell; change = change })
-sent kind target telling code change c core next cell e f =
-    let g = f ∙ ap (λ (n : ℕ). send kind (stageAt target telling n) code c) e in
-    λ i. record { core = g i; answer = Wait (e i); change = change }
+pub kept : (m : Machine) → wordsAt 0 Keep m ≡ m
+unfolding wordsAt wordsOf withComm
+kept m = λ i. record {
+  power = m .power;
+  system = m .system;
+  «pool_used» = m .«pool_used»;
+  «live_ids» = m .«live_ids»;
+  «root_cpus» = m .«root_cpus»;
+  cells = m .cells;
+  comms = set-getD (m .comms) 0 pastComm i;
+  cpus = m .cpus;
+  waiting = m .waiting;
+}
 
-module _ (kind : Kind) (target after : ℕ) (change : Change) (c : Core) (next : ℕ) (e : next ≡ nextCell (c .used) (c .comms) 0 after) where
-  pub tell-sends : (core : Core) → next < maxCells → core ≡ send kind (stageAt target true next) 2 c
-      → _≡_ {A = Moved} (record { core = core; answer = Wait next; change = change }) (tell kind target after change c)
-  unfolding tell
-  tell-sends core h f =
-      sent kind target true 2 change c core next (nextCell (c .used) (c .comms) 0 after) e f
-      ∙ rw (lt-ltb _ _ (subst (λ (n : ℕ). n < maxCells) e h), tell)
+same-waiting : (waiting : Waiting) (m : Machine) → m .waiting ≡ waiting → withWaiting waiting m ≡ m
+unfolding withWaiting
+same-waiting waiting m e = ap (λ (w : Waiting). withWaiting w m) (sym e)
 
-  pub tell-ends : maxCells ≤ next → finish (endCode kind target) change c ≡ tell kind target after change c
-  unfolding tell
-  tell-ends h = rw (le-ltb _ _ (subst (λ (n : ℕ). maxCells ≤ n) e h), tell)
+-- a move that keeps all words
+module _ (answer : Answer) (come : Effect) (waiting : Waiting) (m : Machine) (new : CellConfig) where
+  pub moved-kept : moved (record { answer = answer; effect = come; cell = 0; words = Keep; waiting = waiting }) new m
+      ≡ answered answer (withWaiting waiting (effectOf come new m))
+  unfolding moved
+  moved-kept = ap (λ (next : Machine). answered answer (withWaiting waiting next)) (kept (effectOf come new m))
 
-module _ (kind : Kind) (target after : ℕ) (held : Holding) (c : Core) (only next : ℕ) (o : only ≡ askOnly kind target)
-    (e : next ≡ nextCell (c .used) (c .comms) only after) where
-  found : next ≡ nextCell (c .used) (c .comms) (askOnly kind target) after
-  found = e ∙ ap (λ (n : ℕ). nextCell (c .used) (c .comms) n after) o
+pub stays : (answer : Answer) (waiting : Waiting) → Moves (λ m. m .waiting ≡ waiting) (λ new m. answered answer m)
+    (record { answer = answer; effect = NoEffect; cell = 0; words = Keep; waiting = waiting })
+unfolding effectOf
+stays answer waiting = record {
+  moves = λ m new e. moved-kept answer NoEffect waiting m new ∙ ap (answered answer) (same-waiting waiting m e);
+  place = omega arith;
+}
 
-  pub ask-sends : (core : Core) → next < maxCells → core ≡ send kind (stageAt target false next) 1 c
-      → _≡_ {A = Moved} (record { core = core; answer = Wait next; change = Keep }) (ask kind target after held c)
-  unfolding ask
-  ask-sends core h f =
-      sent kind target false 1 Keep c core next (nextCell (c .used) (c .comms) (askOnly kind target) after) found f
-      ∙ rw (lt-ltb _ _ (subst (λ (n : ℕ). n < maxCells) found h), ask)
+pub finishes : (bits code : ℤ) (come : Effect) → bits ≡ code → Moves AnyMachine (λ new m. finished code (effectOf come new m))
+    (record { answer = Code bits; effect = come; cell = 0; words = Keep; waiting = NoCall })
+unfolding finished
+finishes bits code come e = record {
+  moves = λ m new h. moved-kept (Code bits) come NoCall m new
+      ∙ ap (λ (z : ℤ). answered (Code z) (withWaiting NoCall (effectOf come new m))) e;
+  place = omega arith;
+}
 
-  pub ask-ends : maxCells ≤ next → asked kind target held c ≡ ask kind target after held c
-  unfolding ask
-  ask-ends h = rw (le-ltb _ _ (subst (λ (n : ℕ). maxCells ≤ n) found h), ask)
+pub waits-for : (kind : CallKind) (stage : Stage) (code : ℕ) (come : Effect) → stage .cell < maxCells
+    → Moves AnyMachine (λ new m. waitFor kind stage code (effectOf come new m))
+    (record { answer = Wait (stage .cell); effect = come; cell = stage .cell; words = Message code; waiting = Pending kind stage })
+unfolding moved waitFor wordsAt wordsOf
+waits-for kind stage code come h = record { moves = λ m new t. refl; place = h }
 
-module _ (kind : Kind) (target : ℕ) (held : Holding) (c : Core) where
-  pub asked-locked : (isDestroy kind && lockedBut (c .used) (c .comms) target) ≡ true → finish EPERM Keep c ≡ asked kind target held c
-  unfolding asked
-  asked-locked e = rw (e, asked)
+-- a move by one rule is a move by another that says the same of its machines
+pub moves-as : {has one : Machine → Type 0} {rule first : CellConfig → Machine → Stepped} {mv : Move} → Moves one first mv
+    → ((m : Machine) → has m → one m) → ((m : Machine) (new : CellConfig) → has m → first new m ≡ rule new m) → Moves has rule mv
+moves-as r f e = record { moves = λ m new h. r .moves m new (f m h) ∙ e m new h; place = r .place }
 
-  pub asked-free : (isDestroy kind && lockedBut (c .used) (c .comms) target) ≡ false → carryOut kind target held c ≡ asked kind target held c
-  unfolding asked
-  asked-free e = rw (e, asked)
+-- ---- telling
 
-module _ (kind : Kind) (stage : Stage) (held : Holding) (c : Core) where
-  pub hear-told : stage .telling ≡ true → tell kind (stage .target) (stage .cell) Keep c ≡ hear kind stage held c
+module _ (kind : CallKind) (target next : ℕ) (m : Machine) where
+  pub told-one : next < maxCells → waitFor kind (record { target = target; cell = next; telling = true }) 2 m ≡ tellNext kind target next m
+  unfolding tellNext
+  told-one h = rw (lt-ltb next maxCells h, tellNext)
+
+  pub told-all : maxCells ≤ next → (code : ℤ) → code ≡ endCode kind target → finished code m ≡ tellNext kind target next m
+  unfolding tellNext
+  told-all h code e = rw (le-ltb next maxCells h, tellNext) (ap (λ (z : ℤ). finished z m) e)
+
+  pub tells-next : (after : ℕ) → next ≡ nextToMessage everyCell after m → tellNext kind target next m ≡ tell kind target after m
+  unfolding tellNext tell
+  tells-next after e = ap (λ (k : ℕ). tellNext kind target k m) e
+
+module _ (kind : CallKind) (target : ℕ) (new : CellConfig) (m : Machine) where
+  pub carried-told : (next : ℕ) → tells kind ≡ true → length (m .comms) ≡ maxCells → next ≡ nextToMessage (among (EveryoneBut target)) 0 m
+      → tellNext kind target next (effectOf (Comes kind target) new m) ≡ carryOut kind target new m
+  unfolding carryOut effectOf among
+  carried-told next t size e =
+      tells-next kind target next (effect kind target new m) 0 (e ∙ sym (told-after kind target new m t size)) ∙ (rw (t, carryOut) refl)
+
+  pub carried-ended : tells kind ≡ false → finished (pos 0) (effectOf (Comes kind target) new m) ≡ carryOut kind target new m
+  unfolding carryOut effectOf
+  carried-ended t = rw (t, carryOut)
+
+  -- ---- asking
+
+  pub locked : (isDestroy kind && otherCellLocked target m) ≡ true → finished EPERM (effectOf NoEffect new m) ≡ noneToAsk kind target new m
+  unfolding noneToAsk effectOf
+  locked t = rw (t, noneToAsk)
+
+  pub not-locked : (isDestroy kind && otherCellLocked target m) ≡ false → carryOut kind target new m ≡ noneToAsk kind target new m
+  unfolding noneToAsk
+  not-locked t = rw (t, noneToAsk)
+
+  -- what is done where the next cell to ask is known
+  abbrev ask-next : ℕ → Stepped
+  ask-next next =
+      elim (ltb next noId) as (λ x. Stepped) [
+        | true ↦ waitFor kind (record { target = target; cell = next; telling = false }) shutdownRequest m
+        | false ↦ noneToAsk kind target new m
+      ]
+
+  module _ (after next : ℕ) (e : next ≡ nextToMessage (asks kind target) after m) where
+    pub asks-one : next < maxCells
+        → waitFor kind (record { target = target; cell = next; telling = false }) shutdownRequest (effectOf NoEffect new m) ≡ ask kind target after new m
+    unfolding ask effectOf
+    asks-one h = (rw (lt-ltb next noId h, ask-next) refl) ∙ ap ask-next e
+
+    pub asks-none : maxCells ≤ next → noneToAsk kind target new m ≡ ask kind target after new m
+    unfolding ask
+    asks-none h = (rw (le-ltb next noId h, ask-next) refl) ∙ ap ask-next e
+
+-- ---- hearing
+
+-- what a test says of the words in the table, it says of the machine's
+pub seen : (test : CommRegion → Bool) (m : Machine) (table : List CommRegion) (cell : ℕ) (words : CommRegion) (flag b : Bool)
+    → m .comms ≡ table → words ≡ commIn table cell → flag ≡ test words → flag ≡ b → test (commAt m cell) ≡ b
+seen test m table cell words flag b e w f t =
+    ap (λ (l : List CommRegion). test (commIn l cell)) e ∙ sym (ap test w) ∙ sym f ∙ t
+
+module _ (kind : CallKind) (stage : Stage) (new : CellConfig) (m : Machine) where
+  pub heard-telling : stage .telling ≡ true → tell kind (stage .target) (stage .cell) m ≡ hear kind stage new m
   unfolding hear
-  hear-told e = rw (e, hear)
+  heard-telling t = rw (t, hear)
 
-  pub hear-consent : stage .telling ≡ false → consents (commAt (c .comms) (stage .cell)) ≡ true
-      → ask kind (stage .target) (stage .cell) held c ≡ hear kind stage held c
-  unfolding hear
-  hear-consent e f = rw (e, hear) (rw f)
+  module _ (asking : stage .telling ≡ false) where
+    pub heard-consent : consents (commAt m (stage .cell)) ≡ true → ask kind (stage .target) (stage .cell) new m ≡ hear kind stage new m
+    unfolding hear
+    heard-consent t = rw (asking, hear, t)
 
-  pub hear-denial : stage .telling ≡ false → consents (commAt (c .comms) (stage .cell)) ≡ false → finish EPERM Keep c ≡ hear kind stage held c
-  unfolding hear
-  hear-denial e f = rw (e, hear) (rw f)
+    pub heard-denial : consents (commAt m (stage .cell)) ≡ false → finished EPERM (effectOf NoEffect new m) ≡ hear kind stage new m
+    unfolding hear effectOf
+    heard-denial t = rw (asking, hear, t)
 
-  pub poll-heard : heard (commAt (c .comms) (stage .cell)) ≡ true → hear kind stage held c ≡ pollCell kind stage held c
+  pub polled-heard : isHeard (commAt m (stage .cell)) ≡ true → hear kind stage new m ≡ pollCell kind stage new m
   unfolding pollCell
-  poll-heard e = rw (e, pollCell)
+  polled-heard t = rw (t, pollCell)
 
-  pub poll-waits : heard (commAt (c .comms) (stage .cell)) ≡ false
-      → _≡_ {A = Moved} (record { core = c; answer = Wait (stage .cell); change = Keep }) (pollCell kind stage held c)
+  pub polled-unheard : isHeard (commAt m (stage .cell)) ≡ false → answered (Wait (stage .cell)) m ≡ pollCell kind stage new m
   unfolding pollCell
-  poll-waits e = rw (e, pollCell)
+  polled-unheard t = rw (t, pollCell)

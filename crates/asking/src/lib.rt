@@ -1,250 +1,231 @@
-// Asking cells, telling them, and waiting for their replies.
+// Asking cells, telling them, and hearing their replies: what a call that asks, or a poll, does,
+// decided from the live IDs, the words and the waiting call alone.
 ghost use mathlib.Core.Path.{_≡_};
-ghost use Rattle.asking.specs.Asking.{send as send-of, finish as finish-of, endCode, tell as tell-of, carryOut, isDestroy, asked as asked-of, askOnly, ask as ask-of, hear as hear-of, pollCell, pollCall};
+ghost use Prim.Native.Nat.{ℕ, _<_};
+ghost use Rattle.rules.specs.State.{answered};
+ghost use Rattle.rules.specs.Asking.{asks, tells as tells-of, isDestroy, endCode, waitFor, finished, carryOut, noneToAsk, ask as ask-of, hear as hear-of, pollCell, poll as poll-of};
+ghost use Rattle.comms.specs.Comms.{among};
+ghost use Rattle.asking.specs.Moves.{effectOf, AnyMachine, WithWords, Waits, tellNext, Moves};
 use base::EPERM;
-use effects::Core;
-use effects::Holding;
+use comms::Whom;
+use comms::WordsChange;
 use machine_state::Answer;
-use machine_state::Kind;
+use machine_state::CallKind;
+use machine_state::CommRegion;
 use machine_state::MAX_CELLS;
-use machine_state::Phase;
+use machine_state::RECONFIG_COMPLETED;
+use machine_state::SHUTDOWN_REQUEST;
 use machine_state::Stage;
 use machine_state::Waiting;
 
-// The message codes.
-const SHUTDOWN_REQUEST: u32 = 1;
-
-const RECONFIG_COMPLETED: u32 = 2;
-
-// What becomes of the cell table: nothing, another phase, one cell gone, all gone.
-pub enum Change {
-    Keep,
-    SetPhase(usize, Phase),
-    Drop(usize),
-    DropAll,
+// The effect that comes: none, or that of a call on its target.
+pub enum Effect {
+    NoEffect,
+    Comes(CallKind, usize),
 }
 
-// The core after a call or a poll, the answer, and what becomes of the cell table.
-pub struct Moved {
-    pub core: Core,
+// What a call or a poll does: its answer, the effect that comes, then what is done to the words of
+// one cell, and the call that waits then.
+pub struct Move {
     pub answer: Answer,
-    pub change: Change,
+    pub effect: Effect,
+    pub cell: usize,
+    pub words: WordsChange,
+    pub waiting: Waiting,
 }
 
-// The core after a message to the stage's cell, with the call waiting for it.
-fn send(core: Core, kind: Kind, stage: Stage, code: u32) -> Core
-    ensures { λ r. ⌜ r ≡ send-of kind stage code core ⌝ }
+// An answer that changes nothing; `waiting` is the call that waits already.
+pub fn stay(answer: Answer, waiting: Waiting) -> Move
+    ensures { λ r. ⌜ Moves (λ m. m .waiting ≡ waiting) (λ new m. answered answer m) r ⌝ }
 {
-    let comms = core.comms;
-    let cpus = core.cpus;
-    let words = comms::message(effects::comm_at(comms, stage.cell), code);
-    Core {
-        pool: core.pool,
-        used: core.used,
-        root: core.root,
-        comms: effects::put_comm(comms, stage.cell, words),
-        cpus,
-        waiting: Waiting::Call(kind, stage),
+    Move {
+        answer,
+        effect: Effect::NoEffect,
+        cell: 0,
+        words: WordsChange::Keep,
+        waiting,
     }
 }
 
 // The end of a call, with its code.
-fn finish(core: Core, code: i32, change: Change) -> Moved
-    ensures { λ r. ⌜ r ≡ finish-of code change core ⌝ }
+fn finish(code: i32, effect: Effect) -> Move
+    ensures { λ r. ⌜ Moves AnyMachine (λ new m. finished code (effectOf effect new m)) r ⌝ }
 {
-    let comms = core.comms;
-    let cpus = core.cpus;
-    let core = Core {
-        pool: core.pool,
-        used: core.used,
-        root: core.root,
-        comms,
-        cpus,
-        waiting: Waiting::Nothing,
-    };
-    Moved {
-        core,
+    Move {
         answer: Answer::Code(code),
-        change,
+        effect,
+        cell: 0,
+        words: WordsChange::Keep,
+        waiting: Waiting::NoCall,
+    }
+}
+
+// A message to the stage's cell, for which the call then waits.
+fn wait_for(kind: CallKind, stage: Stage, code: u32, effect: Effect) -> Move
+    requires { ⌜ stage .cell < 16 ⌝ }
+    ensures { λ r. ⌜ Moves AnyMachine (λ new m. waitFor kind stage code (effectOf effect new m)) r ⌝ }
+{
+    let cell = stage.cell;
+    Move {
+        answer: Answer::Wait(cell),
+        effect,
+        cell,
+        words: WordsChange::Message(code),
+        waiting: Waiting::Pending(kind, stage),
     }
 }
 
 // The code with which a call ends that has told everyone.
-fn end_code(kind: Kind, target: usize) -> i32
+fn end_code(kind: CallKind, target: usize) -> i32
     ensures { λ r. ⌜ r ≡ endCode kind target ⌝ }
 {
     match kind {
-        Kind::Create => (target % 0x8000_0000) as i32,
-        Kind::Disable => 0,
-        Kind::Start => 0,
-        Kind::SetLoadable => 0,
-        Kind::Destroy => 0,
+        CallKind::Create => (target % 0x8000_0000) as i32,
+        CallKind::Disable => 0,
+        CallKind::Start => 0,
+        CallKind::SetLoadable => 0,
+        CallKind::Destroy => 0,
     }
 }
 
-// Moves on while telling: messages the next cell after `after`, or ends.
-fn tell(core: Core, kind: Kind, target: usize, after: usize, change: Change) -> Moved
-    ensures { λ r. ⌜ r ≡ tell-of kind target after change core ⌝ }
+// Telling the cell `next`, or with none left the call's end.
+fn tell_next(kind: CallKind, target: usize, next: usize, effect: Effect) -> Move
+    ensures { λ r. ⌜ Moves AnyMachine (λ new m. tellNext kind target next (effectOf effect new m)) r ⌝ }
 {
-    let comms = core.comms;
-    let next = comms::next_cell(core.used, comms, 0, after);
     if next < MAX_CELLS {
         let stage = Stage {
             target,
             cell: next,
             telling: true,
         };
-        let core = send(core, kind, stage, RECONFIG_COMPLETED);
-        Moved {
-            core,
-            answer: Answer::Wait(next),
-            change,
-        }
+        wait_for(kind, stage, RECONFIG_COMPLETED, effect)
     } else {
-        finish(core, end_code(kind, target), change)
+        finish(end_code(kind, target), effect)
     }
 }
 
-// A Create whose effect is done: it tells every cell.
-pub fn tell_created(core: Core, id: usize) -> Moved
-    ensures { λ r. ⌜ r ≡ tell-of Kind.Create id 0 Change.Keep core ⌝ }
-{
-    tell(core, Kind::Create, id, 0, Change::Keep)
-}
-
-// The effect of a call that may go ahead, and what follows it.
-fn carry_out(core: Core, kind: Kind, target: usize, held: Holding) -> Moved
-    ensures { λ r. ⌜ r ≡ carryOut kind target held core ⌝ }
+// Whether the call tells after its effect.
+fn tells(kind: CallKind) -> bool
+    ensures { λ r. ⌜ r ≡ tells-of kind ⌝ }
 {
     match kind {
-        Kind::Disable => finish(effects::disable(core, held), 0, Change::DropAll),
-        Kind::Create => tell(core, Kind::Create, target, 0, Change::Keep),
-        Kind::Start => finish(
-            effects::start(core, target, held),
-            0,
-            Change::SetPhase(target, Phase::Started),
-        ),
-        Kind::SetLoadable => finish(
-            effects::set_loadable(core, target, held),
-            0,
-            Change::SetPhase(target, Phase::Loading),
-        ),
-        Kind::Destroy => tell(
-            effects::destroy(core, target, held),
-            Kind::Destroy,
-            target,
-            0,
-            Change::Drop(target),
-        ),
+        CallKind::Create => true,
+        CallKind::Destroy => true,
+        CallKind::Disable => false,
+        CallKind::Start => false,
+        CallKind::SetLoadable => false,
+    }
+}
+
+// The effect of a call that may go ahead, and what follows it. The cells that are told after it are
+// those that could be told before it, but the target.
+fn carry_out(live_ids: u16, comms: [CommRegion; MAX_CELLS], kind: CallKind, target: usize) -> Move
+    ensures { λ r. ⌜ Moves (WithWords «live_ids» comms) (carryOut kind target) r ⌝ }
+{
+    let effect = Effect::Comes(kind, target);
+    if tells(kind) {
+        let next = comms::next_cell(live_ids, comms, Whom::EveryoneBut(target), 0);
+        tell_next(kind, target, next, effect)
+    } else {
+        finish(0, effect)
     }
 }
 
 // Whether the call is Destroy.
-pub fn is_destroy(kind: Kind) -> bool
+pub fn is_destroy(kind: CallKind) -> bool
     ensures { λ r. ⌜ r ≡ isDestroy kind ⌝ }
 {
     match kind {
-        Kind::Destroy => true,
-        Kind::Disable => false,
-        Kind::Create => false,
-        Kind::Start => false,
-        Kind::SetLoadable => false,
+        CallKind::Destroy => true,
+        CallKind::Disable => false,
+        CallKind::Create => false,
+        CallKind::Start => false,
+        CallKind::SetLoadable => false,
     }
 }
 
 // What follows when no cell is left to ask: Destroy looks at the locks once more.
-fn asked(core: Core, kind: Kind, target: usize, held: Holding) -> Moved
-    ensures { λ r. ⌜ r ≡ asked-of kind target held core ⌝ }
+fn none_to_ask(live_ids: u16, comms: [CommRegion; MAX_CELLS], kind: CallKind, target: usize) -> Move
+    ensures { λ r. ⌜ Moves (WithWords «live_ids» comms) (noneToAsk kind target) r ⌝ }
 {
-    let comms = core.comms;
-    if is_destroy(kind) & comms::is_locked_but(core.used, comms, target as u64) {
-        finish(core, EPERM, Change::Keep)
+    if is_destroy(kind) & comms::is_locked_but(live_ids, comms, target) {
+        finish(EPERM, Effect::NoEffect)
     } else {
-        carry_out(core, kind, target, held)
+        carry_out(live_ids, comms, kind, target)
     }
 }
 
-// The only cell that a call asks; 0 where it asks all.
-fn ask_only(kind: Kind, target: usize) -> usize
-    ensures { λ r. ⌜ r ≡ askOnly kind target ⌝ }
+// The cells that a call asks.
+fn asked(kind: CallKind, target: usize) -> Whom
+    ensures { λ r. ⌜ ((id : ℕ) → among r id ≡ asks kind target id) ⌝ }
 {
     match kind {
-        Kind::Disable => 0,
-        Kind::Create => target,
-        Kind::Start => target,
-        Kind::SetLoadable => target,
-        Kind::Destroy => target,
+        CallKind::Disable => Whom::Everyone,
+        CallKind::Create => Whom::Nobody,
+        CallKind::Start => Whom::Only(target),
+        CallKind::SetLoadable => Whom::Only(target),
+        CallKind::Destroy => Whom::Only(target),
     }
 }
 
 // Moves on while asking: messages the next cell after `after`, or comes to the effect.
-pub fn ask(core: Core, kind: Kind, target: usize, after: usize, held: Holding) -> Moved
-    ensures { λ r. ⌜ r ≡ ask-of kind target after held core ⌝ }
+pub fn ask(
+    live_ids: u16,
+    comms: [CommRegion; MAX_CELLS],
+    kind: CallKind,
+    target: usize,
+    after: usize,
+) -> Move
+    ensures { λ r. ⌜ Moves (WithWords «live_ids» comms) (ask-of kind target after) r ⌝ }
 {
-    let comms = core.comms;
-    let only = ask_only(kind, target);
-    let next = comms::next_cell(core.used, comms, only, after);
+    let next = comms::next_cell(live_ids, comms, asked(kind, target), after);
     if next < MAX_CELLS {
         let stage = Stage {
             target,
             cell: next,
             telling: false,
         };
-        let core = send(core, kind, stage, SHUTDOWN_REQUEST);
-        Moved {
-            core,
-            answer: Answer::Wait(next),
-            change: Change::Keep,
-        }
+        wait_for(kind, stage, SHUTDOWN_REQUEST, Effect::NoEffect)
     } else {
-        asked(core, kind, target, held)
+        none_to_ask(live_ids, comms, kind, target)
     }
 }
 
 // What a heard cell's reply leads to.
-fn hear(core: Core, kind: Kind, stage: Stage, held: Holding) -> Moved
-    ensures { λ r. ⌜ r ≡ hear-of kind stage held core ⌝ }
+fn hear(live_ids: u16, comms: [CommRegion; MAX_CELLS], kind: CallKind, stage: Stage) -> Move
+    ensures { λ r. ⌜ Moves (WithWords «live_ids» comms) (hear-of kind stage) r ⌝ }
 {
-    let comms = core.comms;
-    if stage.telling {
-        return tell(core, kind, stage.target, stage.cell, Change::Keep);
-    }
-    if comms::consents(effects::comm_at(comms, stage.cell)) {
-        ask(core, kind, stage.target, stage.cell, held)
-    } else {
-        finish(core, EPERM, Change::Keep)
-    }
-}
-
-// A poll: looks at the cell waited for. `held` is what the call's target holds, of Disable what all
-// cells hold.
-pub fn poll_call(core: Core, held: Holding) -> Moved
-    ensures { λ r. ⌜ r ≡ pollCall (core .waiting) held core ⌝ }
-{
-    let waiting = core.waiting;
-    match waiting {
-        Waiting::Nothing => Moved {
-            core,
-            answer: Answer::Idle,
-            change: Change::Keep,
-        },
-        Waiting::Call(kind, stage) => poll_cell(core, kind, stage, held),
-    }
-}
-
-// A poll of a waiting call.
-fn poll_cell(core: Core, kind: Kind, stage: Stage, held: Holding) -> Moved
-    ensures { λ r. ⌜ r ≡ pollCell kind stage held core ⌝ }
-{
-    let comms = core.comms;
     let cell = stage.cell;
-    if comms::is_heard(effects::comm_at(comms, cell)) {
-        hear(core, kind, stage, held)
+    let target = stage.target;
+    if stage.telling {
+        let next = comms::next_cell(live_ids, comms, Whom::Everyone, cell);
+        return tell_next(kind, target, next, Effect::NoEffect);
+    }
+    if comms::consents(comms::words_at(comms, cell)) {
+        ask(live_ids, comms, kind, target, cell)
     } else {
-        Moved {
-            core,
-            answer: Answer::Wait(cell),
-            change: Change::Keep,
-        }
+        finish(EPERM, Effect::NoEffect)
+    }
+}
+
+// A poll of a waiting call: looks at the cell waited for.
+fn poll_cell(live_ids: u16, comms: [CommRegion; MAX_CELLS], kind: CallKind, stage: Stage) -> Move
+    ensures { λ r. ⌜ Moves (Waits «live_ids» comms (Waiting.Pending kind stage)) (pollCell kind stage) r ⌝ }
+{
+    let cell = stage.cell;
+    if comms::is_heard(comms::words_at(comms, cell)) {
+        hear(live_ids, comms, kind, stage)
+    } else {
+        stay(Answer::Wait(cell), Waiting::Pending(kind, stage))
+    }
+}
+
+// A poll.
+pub fn poll(live_ids: u16, comms: [CommRegion; MAX_CELLS], waiting: Waiting) -> Move
+    ensures { λ r. ⌜ Moves (Waits «live_ids» comms waiting) (poll-of waiting) r ⌝ }
+{
+    match waiting {
+        Waiting::NoCall => stay(Answer::Idle, waiting),
+        Waiting::Pending(kind, stage) => poll_cell(live_ids, comms, kind, stage),
     }
 }

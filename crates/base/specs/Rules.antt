@@ -8,6 +8,11 @@ pub record Refusal (A : Type 0) : Type 0 where
   pub when : Bool
   pub code : A
 
+-- a row of a table: when it applies, and what it gives
+infix 4 _⇒_
+abbrev pub _⇒_ : {A : Type 0} → Bool → A → Refusal A
+when ⇒ code = record { when = when; code = code }
+
 -- the code of the first rule that holds, and `otherwise` where none does
 unfoldable pub firstRule : {A : Type 0} → List (Refusal A) → A → A
 firstRule [] otherwise = otherwise

@@ -23,7 +23,7 @@ cellOf r = record {
   name = padded 32 (part 8 32 r);
   passive = eqb (u16 6 r % 2) 1;
   cpus = u64 40 r;
-  count = u16 48 r;
+  «region_count» = u16 48 r;
   regions = tableOf 56 (u16 48 r) r;
 }
 
@@ -55,7 +55,7 @@ cellRegionOk boot r =
 
 -- the regions of a cell: those that the count names
 abbrev pub cellRegions : CellConfig → List MemRegion
-cellRegions c = take (c .count) (c .regions)
+cellRegions c = take (c .«region_count») (c .regions)
 
 -- the rules on the values: the name, "no CPU", the regions, and "Without one [a comm region] the cell must be passive"
 unfoldable pub cellValid : SystemConfig → CellConfig → Bool

@@ -17,7 +17,7 @@ pub struct CellConfig {
     pub name: [u8; 32],
     pub passive: bool,
     pub cpus: u64,
-    pub count: usize,
+    pub region_count: usize,
     pub regions: [MemRegion; MAX_REGIONS],
 }
 
@@ -38,13 +38,13 @@ pub fn cell_of(s: &[u8]) -> CellConfig
         name,
         passive: fields::u16_at(s, 6) % 2 == 1,
         cpus: fields::u64_at(s, 40),
-        count,
+        region_count: count,
         regions,
     }
 }
 
 // Whether the record has the form of a cell record.
-fn cell_form(s: &[u8]) -> bool
+pub fn cell_form(s: &[u8]) -> bool
     ensures { λ r. ⌜ r ≡ cellForm (now (s .entry)) ⌝ }
 {
     let n = fields::u16_at(s, 48) as usize;
@@ -68,7 +68,7 @@ pub fn cell_region_ok(boot: SystemConfig, r: MemRegion) -> bool
         & regions::comm_ok(r)
         & regions::clear_of(hypervisor.start, hypervisor.size, r)
         & (!(regions::is_loadable(r) | regions::is_shared(r))
-            | region_table::inside_one(r, table, boot.count))
+            | region_table::inside_one(r, table, boot.region_count))
 }
 
 // Whether the first `count` regions of a table each keep a cell region's rules.
@@ -93,9 +93,9 @@ pub fn cell_valid(boot: SystemConfig, c: CellConfig) -> bool
     let regions = c.regions;
     fields::is_name(&name)
         & !cpu_set::is_empty(c.cpus)
-        & cell_regions_ok(boot, regions, c.count)
-        & region_table::all_apart(regions, c.count)
-        & (region_table::has_comm(regions, c.count) | c.passive)
+        & cell_regions_ok(boot, regions, c.region_count)
+        & region_table::all_apart(regions, c.region_count)
+        & (region_table::has_comm(regions, c.region_count) | c.passive)
 }
 
 // The answer to a record that holds these values.

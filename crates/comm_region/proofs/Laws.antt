@@ -13,14 +13,14 @@ use Rattle.base.specs.Lists.{part}
 use Rattle.base.proofs.Tests.{le-or-lt, is-true, holds, and-right}
 use Rattle.cpu_set.specs.CpuSet.{count, countBelow, member}
 use Rattle.fields.specs.Fields.{littleEndian, field, u32}
-use Rattle.machine_state.specs.declared.Comm.{Comm}
+use Rattle.machine_state.specs.declared.CommRegion.{CommRegion}
 use Rattle.machine_state.specs.declared.Machine.{Machine}
-use Rattle.machine_state.specs.Machine.{live}
-use Rattle.comm_region.specs.CommRegion.{bytes, layout, regionOf, hasRegion, regionSeen, regionWord, regionByte}
-use Rattle.comm_region.specs.declared.RegionWord.{RegionWord}
-use Rattle.comm_region.specs.declared.RegionWord.the-variants as RegionWord
-use Rattle.comm_region.specs.declared.RegionByte.{RegionByte}
-use Rattle.comm_region.specs.declared.RegionByte.the-variants as RegionByte
+use Rattle.rules.specs.State.{hasId, live, commAt}
+use Rattle.rules.specs.CommRegion.{bytes, layout, shownIn, seesRegion, regionWord, regionByte}
+use Rattle.machine_state.specs.declared.RegionWord.{RegionWord}
+use Rattle.machine_state.specs.declared.RegionWord.the-variants as RegionWord
+use Rattle.machine_state.specs.declared.RegionByte.{RegionByte}
+use Rattle.machine_state.specs.declared.RegionByte.the-variants as RegionByte
 
 -- a number is what its bytes say
 pub number-bytes : (size n : ℕ) → n < 256 ^ size → n ≡ littleEndian (bytes size n)
@@ -37,7 +37,7 @@ number-halves a b f g =
     omega arith
 
 -- the region has 20 bytes
-pub layout-length : (c : Comm) (timer cpus : ℕ) → length (layout c timer cpus) ≡ 20
+pub layout-length : (c : CommRegion) (timer cpus : ℕ) → length (layout c timer cpus) ≡ 20
 unfolding layout bytes
 layout-length c timer cpus = refl
 
@@ -63,7 +63,7 @@ four-bytes : (x y z w : ℕ) → bytes 4 (littleEndian (x % 256 ∷ y % 256 ∷ 
 four-bytes x y z w = bytes-number (x ∷ y ∷ z ∷ w ∷ [])
 
 -- the bytes of a word of the region
-word-bytes : (c : Comm) (timer cpus word : ℕ) → word < 5 → bytes 4 (u32 (4 * word) (layout c timer cpus)) ≡ part (4 * word) 4 (layout c timer cpus)
+word-bytes : (c : CommRegion) (timer cpus word : ℕ) → word < 5 → bytes 4 (u32 (4 * word) (layout c timer cpus)) ≡ part (4 * word) 4 (layout c timer cpus)
 unfolding field layout bytes
 word-bytes c timer cpus zero h = four-bytes _ _ _ _
 word-bytes c timer cpus (suc zero) h = four-bytes _ _ _ _
@@ -88,7 +88,7 @@ byte-shift word (suc (suc (suc (suc k)))) h = absurd (past h)
     past h = omega arith
 
 -- the byte at an offset is that of its word
-byte-at : (c : Comm) (timer cpus offset : ℕ) → offset < 20
+byte-at : (c : CommRegion) (timer cpus offset : ℕ) → offset < 20
     → getD (bytes 4 (u32 (4 * (offset / 4)) (layout c timer cpus))) (offset % 4) 0 ≡ getD (layout c timer cpus) offset 0
 byte-at c timer cpus offset h =
     let place : 4 * (offset / 4) + offset % 4 ≡ offset = omega arith in
@@ -105,42 +105,42 @@ same-end offset =
 
 -- byte k of what `region_word` gives
 abbrev pub byteOf : RegionWord → ℕ → RegionByte
-byteOf RegionWord.Nothing k = RegionByte.Nothing
+byteOf RegionWord.NoWord k = RegionByte.NoByte
 byteOf (RegionWord.Word word) k = RegionByte.Byte (getD (bytes 4 word) k 0)
 
-region-byte : (m : Machine) (id offset : ℕ) → byteOf (regionWord m id (offset / 4)) (offset % 4) ≡ regionByte m id offset
+region-byte : (m : Machine) (id offset : ℕ) → byteOf (regionWord id (offset / 4) m) (offset % 4) ≡ regionByte id offset m
 unfolding regionWord regionByte
 region-byte m id offset =
-    by-test (regionSeen m id) (ltb (offset / 4) 5) (ltb offset 20) (same-end offset) (λ e. byte-at _ _ _ offset (ltb-true offset 20 e))
+    by-test (seesRegion id m) (ltb (offset / 4) 5) (ltb offset 20) (same-end offset) (λ e. byte-at _ _ _ offset (ltb-true offset 20 e))
   where
-    by-test : (s w t : Bool) → w ≡ t → (t ≡ true → getD (bytes 4 (u32 (4 * (offset / 4)) (regionOf m id))) (offset % 4) 0 ≡ getD (regionOf m id) offset 0)
-        → byteOf (elim (s && w) as (λ x. RegionWord) [ true ↦ RegionWord.Word (u32 (4 * (offset / 4)) (regionOf m id)) | false ↦ RegionWord.Nothing ]) (offset % 4)
-        ≡ elim (s && t) as (λ x. RegionByte) [ true ↦ RegionByte.Byte (getD (regionOf m id) offset 0) | false ↦ RegionByte.Nothing ]
+    by-test : (s w t : Bool) → w ≡ t → (t ≡ true → getD (bytes 4 (u32 (4 * (offset / 4)) (shownIn id m))) (offset % 4) 0 ≡ getD (shownIn id m) offset 0)
+        → byteOf (elim (s && w) as (λ x. RegionWord) [ true ↦ RegionWord.Word (u32 (4 * (offset / 4)) (shownIn id m)) | false ↦ RegionWord.NoWord ]) (offset % 4)
+        ≡ elim (s && t) as (λ x. RegionByte) [ true ↦ RegionByte.Byte (getD (shownIn id m) offset 0) | false ↦ RegionByte.NoByte ]
     by-test false w t p e = refl
     by-test true false false p e = refl
     by-test true true true p e = ap RegionByte.Byte (e refl)
     by-test true true false p e = cc
     by-test true false true p e = cc
 
-pub byte-of-word : (m : Machine) (id offset : ℕ) (w : RegionWord) → w ≡ regionWord m id (offset / 4) → byteOf w (offset % 4) ≡ regionByte m id offset
+pub byte-of-word : (m : Machine) (id offset : ℕ) (w : RegionWord) → w ≡ regionWord id (offset / 4) m → byteOf w (offset % 4) ≡ regionByte id offset m
 byte-of-word m id offset w e = ap (λ (v : RegionWord). byteOf v (offset % 4)) e ∙ region-byte m id offset
 
 -- no cell has an ID from 16 up
-pub not-seen : (used id : ℕ) (c : Comm) → 16 ≤ id → hasRegion used c id ≡ false
-unfolding hasRegion live
-not-seen used id c h = rw (le-ltb id 16 h, live) (by-test (not (eqb id 0)))
+pub not-seen : (m : Machine) (id : ℕ) → 16 ≤ id → seesRegion id m ≡ false
+unfolding seesRegion hasId
+not-seen m id h = rw (le-ltb id 16 h, hasId) (by-test (not (eqb id 0)))
   where
-    by-test : (t : Bool) → (t && false && c .mapped) ≡ false
+    by-test : (t : Bool) → (t && false && commAt m id .mapped) ≡ false
     by-test true = refl
     by-test false = refl
 
 -- a word, by the test that the code makes
-module _ (m : Machine) (id word : ℕ) (seen : Bool) (known : seen ≡ regionSeen m id) where
-  pub no-word : (seen && ltb word 5) ≡ false → RegionWord.Nothing ≡ regionWord m id word
+module _ (m : Machine) (id word : ℕ) (seen : Bool) (known : seen ≡ seesRegion id m) where
+  pub no-word : (seen && ltb word 5) ≡ false → RegionWord.NoWord ≡ regionWord id word m
   unfolding regionWord
   no-word e = rw (← known, e, regionWord)
 
-  pub a-word : (seen && ltb word 5) ≡ true → RegionWord.Word (u32 (4 * word) (regionOf m id)) ≡ regionWord m id word
+  pub a-word : (seen && ltb word 5) ≡ true → RegionWord.Word (u32 (4 * word) (shownIn id m)) ≡ regionWord id word m
   unfolding regionWord
   a-word e = rw (← known, e, regionWord)
 

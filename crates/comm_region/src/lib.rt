@@ -4,36 +4,29 @@ ghost use Prim.Native.Nat.{_*_, _<_};
 ghost use lib.ListN.{getD};
 ghost use Rattle.cpu_set.specs.CpuSet.{count};
 ghost use Rattle.fields.specs.Fields.{u32};
-ghost use Rattle.comm_region.specs.CommRegion.{bytes, layout, hasRegion, regionWord, regionByte};
-use machine_state::Comm;
+ghost use Rattle.machine_state.specs.declared.Machine.{Machine};
+ghost use Rattle.rules.specs.State.{commAt};
+ghost use Rattle.rules.specs.CommRegion.{bytes, layout, seesRegion, regionWord, regionByte};
+use machine_state::CommRegion;
 use machine_state::MAX_CELLS;
 use machine_state::Machine;
-
-// A word or a byte of the region; `Nothing` past its end and where the cell has none.
-pub enum RegionWord {
-    Nothing,
-    Word(u32),
-}
-
-pub enum RegionByte {
-    Nothing,
-    Byte(u8),
-}
+use machine_state::RegionByte;
+use machine_state::RegionWord;
 
 // A word of the region: 0 message to the cell, 1 message from it, 2 its state, 3 zero, 4 the PM
 // timer address and, above it, the number of CPUs.
-fn word_of(c: Comm, timer: u16, cpus: u64, word: u64) -> u32
+fn word_of(c: CommRegion, timer: u16, cpus: u64, word: u64) -> u32
     requires { ⌜ word < 5 ⌝ }
     ensures { λ r. ⌜ r ≡ u32 (4 * word) (layout c timer (count cpus)) ⌝ }
 {
     if word == 0 {
-        return c.to;
+        return c.msg_to_cell;
     }
     if word == 1 {
-        return c.from;
+        return c.reply_from_cell;
     }
     if word == 2 {
-        return c.state;
+        return c.cell_state;
     }
     if word == 3 {
         return 0;
@@ -42,26 +35,26 @@ fn word_of(c: Comm, timer: u16, cpus: u64, word: u64) -> u32
 }
 
 // Whether cell `id`, whose words are `c`, sees a region: it is live, is not root, and has one.
-fn has_region(used: u16, c: Comm, id: u64) -> bool
-    ensures { λ r. ⌜ r ≡ hasRegion used c id ⌝ }
+fn sees_region(live_ids: u16, c: CommRegion, id: u64) -> bool
+    ensures { λ r. ⌜ ((m : Machine) → m .«live_ids» ≡ «live_ids» → commAt m id ≡ c → r ≡ seesRegion id m) ⌝ }
 {
-    !(id == 0) & comms::is_live(used, id) & c.mapped
+    !(id == 0) & comms::is_live(live_ids, id) & c.mapped
 }
 
-// Word `word` of cell `id`'s region. `Nothing` for root, for a cell that is not live or has no
+// Word `word` of cell `id`'s region. None for root, for a cell that is not live or has no
 // region, and from word 5 on.
 pub fn region_word(m: Machine, id: u64, word: u64) -> RegionWord
-    ensures { λ r. ⌜ r ≡ regionWord m id word ⌝ }
+    ensures { λ r. ⌜ r ≡ regionWord id word m ⌝ }
 {
     let i = id as usize;
     if MAX_CELLS <= i {
-        return RegionWord::Nothing;
+        return RegionWord::NoWord;
     }
     let c = m.comms[i];
-    if has_region(m.used, c, id) & (word < 5) {
-        return RegionWord::Word(word_of(c, m.boot.timer, m.cells[i].cpus, word));
+    if sees_region(m.live_ids, c, id) & (word < 5) {
+        return RegionWord::Word(word_of(c, m.system.timer, m.cells[i].cpus, word));
     }
-    RegionWord::Nothing
+    RegionWord::NoWord
 }
 
 // A byte of a word, the lowest first.
@@ -72,13 +65,13 @@ fn byte_of(word: u32, k: u64) -> u8
     ((word >> (8 * k as u32)) % 256) as u8
 }
 
-// The byte at an offset of cell `id`'s region. `Nothing` where `region_word` has none, and from
+// The byte at an offset of cell `id`'s region. None where `region_word` has none, and from
 // byte 20 on.
 pub fn region_byte(m: Machine, id: u64, offset: u64) -> RegionByte
-    ensures { λ r. ⌜ r ≡ regionByte m id offset ⌝ }
+    ensures { λ r. ⌜ r ≡ regionByte id offset m ⌝ }
 {
     match region_word(m, id, offset / 4) {
-        RegionWord::Nothing => RegionByte::Nothing,
+        RegionWord::NoWord => RegionByte::NoByte,
         RegionWord::Word(word) => RegionByte::Byte(byte_of(word, offset % 4)),
     }
 }

@@ -1,12 +1,13 @@
 -- Loops that go through the cells' IDs from the highest down: what is found at or above i, one ID a turn. Assumes nothing.
 use mathlib.Core.Path.{_≡_, refl, ap, _∙_}
 use mathlib.Core.Bool.{Bool, true, false, _||_}
-use Rattle.machine_state.specs.declared.Comm.{Comm}
 use Prim.Native.Nat.{ℕ, zero, suc, _-_, _≤_, _<_}
 use native.Mathlib.Omega.{arith}
 use Rattle.base.specs.Lists.{any, from}
+use Rattle.machine_state.specs.declared.CommRegion.{CommRegion}
 use Rattle.machine_state.specs.Machine.{maxCells}
-use Rattle.comms.specs.Comms.{first, cellIds, storeWord, withState}
+use Rattle.rules.specs.State.{first, cellIds}
+use Rattle.rules.specs.Effects.{storeWord, withState}
 use Rattle.comms.specs.Choice.{choice}
 
 -- what a search over the IDs from i up finds
@@ -64,7 +65,7 @@ module _ (p : ℕ → Bool) where
   any-all i l h = let e : i ≡ 1 = omega arith in ap (anyFrom p) e
 
 -- a store to a word that is neither 0 nor 1 is one to the state
-pub store-state : (word value : ℕ) (c : Comm) → (word ≡ 0 → ⊥) → (word ≡ 1 → ⊥) → withState value c ≡ storeWord word value c
+pub store-state : (word value : ℕ) (c : CommRegion) → (word ≡ 0 → ⊥) → (word ≡ 1 → ⊥) → withState value c ≡ storeWord word value c
 unfolding storeWord
 store-state zero value c n m = absurd (n refl)
 store-state (suc zero) value c n m = absurd (m refl)

@@ -3,7 +3,8 @@
 use mathlib.Core.Bool.{Bool, true, false, not, xor, _&&_, _||_, Bool·beq}
 use mathlib.Core.Path.{_≡_, refl, sym, ap, ap₂, _∙_}
 use Prim.Native.Nat.{ℕ, zero, suc, _+_, _*_, _/_, _%_, _^_, _≤_, _<_}
-use native.Mathlib.Nat.{mod-one, mod-lt, mod-eq-of-lt, div-eq-of-lt, lt-of-lt-of-le, lt-of-le-of-lt, zero-div, pow-suc, mul-comm}
+use native.Mathlib.Decide.{ℕ-discrete}
+use native.Mathlib.Nat.{not-suc-le-zero, mod-one, mod-lt, mod-eq-of-lt, div-eq-of-lt, lt-of-lt-of-le, lt-of-le-of-lt, zero-div, pow-suc, mul-comm}
 use native.Mathlib.Numerals.{one-add}
 use native.Mathlib.Omega.{arith}
 use lib.Dec.{T, eqb, ltb, eqb→eq}
@@ -54,7 +55,7 @@ number-lt zero p = omega arith
 number-lt (suc n) p = rw (number-step, pow-suc, mul-comm (2 ^ n) 2) (digits-lt (digit-lt (p n)) (number-lt n p))
 
 -- the low n digits of a are those that the test picks
-low-bits : (n a : ℕ) (p : ℕ → Bool) → ((k : ℕ) → k < n → bit k a ≡ p k) → a % 2 ^ n ≡ numberOf n p
+pub low-bits : (n a : ℕ) (p : ℕ → Bool) → ((k : ℕ) → k < n → bit k a ≡ p k) → a % 2 ^ n ≡ numberOf n p
 unfolding numberOf
 low-bits zero a p e = mod-one a
 low-bits (suc n) a p e =
@@ -176,3 +177,34 @@ zero-isEmpty a h =
     go : (x : Bool) → Bool·beq x false ≡ not x
     go true = refl
     go false = refl
+
+-- ---- the members of a set that a test picks
+
+same-picks : (n : ℕ) (p q : ℕ → Bool) → numberOf n p ≡ numberOf n q → (k : ℕ) → k < n → p k ≡ q k
+same-picks zero p q e k h = absurd (not-suc-le-zero h)
+same-picks (suc n) p q e k h =
+    go (p n) (q n) refl refl (sym (number-step n p) ∙ e ∙ number-step n q) (λ f. same-picks n p q f k)
+  where
+    low : (k < n → p k ≡ q k) → Dec (k ≡ n) → p n ≡ q n → p k ≡ q k
+    low f (yes i) t = rw i t
+    low f (no i) t = f (omega arith)
+
+    go : (a b : Bool) → p n ≡ a → q n ≡ b → digit a * 2 ^ n + numberOf n p ≡ digit b * 2 ^ n + numberOf n q
+        → (numberOf n p ≡ numberOf n q → k < n → p k ≡ q k) → p k ≡ q k
+    go true true s t f g = low (g (omega arith)) (ℕ-discrete k n) (s ∙ sym t)
+    go true false s t f g = absurd (omega (arith, number-lt n q))
+    go false true s t f g = absurd (omega (arith, number-lt n p))
+    go false false s t f g = low (g (omega arith)) (ℕ-discrete k n) (s ∙ sym t)
+
+pub bit-number : (n : ℕ) (p : ℕ → Bool) (k : ℕ) → k < n → bit k (numberOf n p) ≡ p k
+bit-number n p k h =
+    same-picks n (λ i. bit i (numberOf n p)) p
+    (sym (low-bits n (numberOf n p) (λ i. bit i (numberOf n p)) (λ i l. refl)) ∙ mod-eq-of-lt (number-lt n p)) k h
+
+pub member-setOf : (p : ℕ → Bool) (k : ℕ) → k < 64 → member k (setOf p) ≡ p k
+unfolding member
+member-setOf p k h = go (ltb k 64) refl
+  where
+    go : (b : Bool) → ltb k 64 ≡ b → elim b [ true ↦ bit k (setOf p) | false ↦ false ] ≡ p k
+    go true e = bit-number 64 p k h
+    go false e = absurd (omega (arith, ltb-false k 64 e))

@@ -1,15 +1,25 @@
 // The CPU table: exit counters, failed marks, and what an effect does to the CPUs of a set.
 ghost use mathlib.Core.Path.{_≡_};
-ghost use Rattle.cpu_table.specs.CpuTable.{bump as bump-of, countExit, changeCpu, changeIn, changeCpus, failCpu, allFailed};
+ghost use lib.ListN.{set as set-at};
+ghost use Rattle.machine_state.specs.Machine.{cpuIn};
+ghost use Rattle.rules.specs.Effects.{bump as bump-of, countExit, failCpu, startCpu, stopCpu, allFailed, changeIn, changeCpus};
+ghost use Rattle.cpu_table.specs.CpuTable.{changeOf};
 use machine_state::Cpu;
 use machine_state::MAX_CPUS;
 
-// What an effect does to a CPU: starts it, stops it, or gives it to a cell, fresh.
+// What is done to a CPU: nothing, an exit counted with its own counter, marked failed, started,
+// stopped, or given to a cell, fresh, stopped or running.
 pub enum CpuChange {
+    Keep,
+    Count(usize),
+    Fail,
     Start,
     Stop,
     Give(usize, bool),
 }
+
+// The counter of calls; 0 is the total, and exits of kinds 0 to 3 have 1 to 4.
+pub const CALL_COUNTER: usize = 5;
 
 // The counters with one added to the one at `i`, modulo 2^32.
 fn bump(counters: [u32; 6], i: usize) -> [u32; 6]
@@ -23,7 +33,7 @@ fn bump(counters: [u32; 6], i: usize) -> [u32; 6]
 }
 
 // The CPU with one more exit: the total, and the counter at `own`.
-pub fn count_exit(p: Cpu, own: usize) -> Cpu
+fn count_exit(p: Cpu, own: usize) -> Cpu
     ensures { λ r. ⌜ r ≡ countExit own p ⌝ }
 {
     let before = p.counters;
@@ -36,31 +46,51 @@ pub fn count_exit(p: Cpu, own: usize) -> Cpu
     }
 }
 
+// The CPU, failed.
+fn fail_cpu(p: Cpu) -> Cpu
+    ensures { λ r. ⌜ r ≡ failCpu p ⌝ }
+{
+    let mut next = p;
+    next.failed = true;
+    next
+}
+
+// The CPU, running and unfailed.
+fn start_cpu(p: Cpu) -> Cpu
+    ensures { λ r. ⌜ r ≡ startCpu p ⌝ }
+{
+    let mut next = p;
+    next.stopped = false;
+    next.failed = false;
+    next
+}
+
+// The CPU, stopped; its failed mark stays.
+fn stop_cpu(p: Cpu) -> Cpu
+    ensures { λ r. ⌜ r ≡ stopCpu p ⌝ }
+{
+    let mut next = p;
+    next.stopped = true;
+    next
+}
+
 // The CPU after a change.
 pub fn change_cpu(p: Cpu, how: CpuChange) -> Cpu
-    ensures { λ r. ⌜ r ≡ changeCpu how p ⌝ }
+    ensures { λ r. ⌜ r ≡ changeOf how p ⌝ }
 {
-    let counters = p.counters;
     match how {
-        CpuChange::Start => Cpu {
-            cell: p.cell,
-            stopped: false,
-            failed: false,
-            counters,
-        },
-        CpuChange::Stop => Cpu {
-            cell: p.cell,
-            stopped: true,
-            failed: p.failed,
-            counters,
-        },
+        CpuChange::Keep => p,
+        CpuChange::Count(own) => count_exit(p, own),
+        CpuChange::Fail => fail_cpu(p),
+        CpuChange::Start => start_cpu(p),
+        CpuChange::Stop => stop_cpu(p),
         CpuChange::Give(cell, stopped) => machine_state::fresh_cpu(cell, stopped),
     }
 }
 
 // CPU `k` after a change of the CPUs in `set`.
-pub fn change_in(set: u64, how: CpuChange, k: u64, p: Cpu) -> Cpu
-    ensures { λ r. ⌜ r ≡ changeIn «set» how k p ⌝ }
+fn change_in(set: u64, how: CpuChange, k: u64, p: Cpu) -> Cpu
+    ensures { λ r. ⌜ r ≡ changeIn «set» (changeOf how) k p ⌝ }
 {
     if cpu_set::contains(set, k) {
         change_cpu(p, how)
@@ -71,7 +101,7 @@ pub fn change_in(set: u64, how: CpuChange, k: u64, p: Cpu) -> Cpu
 
 // The table after a change of the CPUs in `set`.
 pub fn change_cpus(set: u64, how: CpuChange, cpus: [Cpu; MAX_CPUS]) -> [Cpu; MAX_CPUS]
-    ensures { λ r. ⌜ r ≡ changeCpus «set» how cpus ⌝ }
+    ensures { λ r. ⌜ r ≡ changeCpus «set» (changeOf how) cpus ⌝ }
 {
     let mut next = cpus;
     let mut i = 0;
@@ -82,27 +112,14 @@ pub fn change_cpus(set: u64, how: CpuChange, cpus: [Cpu; MAX_CPUS]) -> [Cpu; MAX
     next
 }
 
-// The CPU, failed.
-pub fn fail_cpu(p: Cpu) -> Cpu
-    ensures { λ r. ⌜ r ≡ failCpu p ⌝ }
-{
-    let counters = p.counters;
-    Cpu {
-        cell: p.cell,
-        stopped: p.stopped,
-        failed: true,
-        counters,
-    }
-}
-
-// Whether every CPU in `set` is failed.
-pub fn all_failed(set: u64, cpus: [Cpu; MAX_CPUS]) -> bool
-    ensures { λ r. ⌜ r ≡ allFailed «set» cpus ⌝ }
+// Whether every CPU in `set` is failed once CPU `also` is.
+pub fn all_failed(set: u64, also: usize, cpus: [Cpu; MAX_CPUS]) -> bool
+    ensures { λ r. ⌜ r ≡ allFailed «set» (set-at cpus also (failCpu (cpuIn cpus also))) ⌝ }
 {
     let mut ok = true;
     let mut i = 0;
     while i < MAX_CPUS {
-        ok = ok & (!cpu_set::contains(set, i as u64) | cpus[i].failed);
+        ok = ok & (!cpu_set::contains(set, i as u64) | ((i == also) | cpus[i].failed));
         i += 1;
     }
     ok

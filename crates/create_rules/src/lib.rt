@@ -1,40 +1,48 @@
-// When Create is refused: names and memory that other cells have, CPUs that are not root's, no room.
+// When Create is refused: a locked configuration, a bad record, names, CPUs and memory that others
+// have, no room. Each test looks at the parts of the machine that its rule names.
 ghost use mathlib.Core.Path.{_≡_};
+ghost use Prim.Native.Nat.{_+_};
+ghost use lib.Dec.{ltb};
 ghost use lib.ListN.{take};
 ghost use Rattle.base.specs.Lists.{any};
-ghost use Rattle.create_rules.specs.CreateRules.{nameInUse, conflict as conflict-of, conflicts as conflicts-of, regionInUse, resourceBusy, noMemory, createRefusal};
+ghost use Rattle.machine_state.specs.declared.Machine.{Machine};
+ghost use Rattle.rules.specs.Create.{nameInUse, conflict as conflict-of, conflicts as conflicts-of, regionInUse, busy, noRoom};
+ghost use Rattle.rules.specs.Effects.{poolCost};
+ghost use Rattle.unobeyed.specs.Admission.{Follows};
+ghost use Rattle.create_rules.specs.Rows.{newRows, createRows};
+use base::E2BIG;
 use base::EBUSY;
 use base::EEXIST;
 use base::EINVAL;
 use base::ENOMEM;
 use base::EPERM;
 use cell_record::CellConfig;
-use cell_record::CellRead;
-use effects::Core;
+use machine_state::Answer;
 use machine_state::Cell;
+use machine_state::CommRegion;
 use machine_state::MAX_CELLS;
 use region_table::MAX_REGIONS;
 use regions::MemRegion;
 use system_record::SystemConfig;
+use unobeyed::Admission;
 
-// Whether root or a live cell has the name.
-fn name_in_use(boot: SystemConfig, used: u16, cells: [Cell; MAX_CELLS], name: [u8; 32]) -> bool
-    ensures { λ r. ⌜ r ≡ nameInUse boot used cells name ⌝ }
+// Whether root, whose name is `root`, or a live cell has the name.
+fn name_in_use(root: [u8; 32], live_ids: u16, cells: [Cell; MAX_CELLS], name: [u8; 32]) -> bool
+    ensures { λ r. ⌜ ((m : Machine) → m .system .name ≡ root → m .«live_ids» ≡ «live_ids» → m .cells ≡ cells → r ≡ nameInUse name m) ⌝ }
 {
-    let root = boot.name;
     let mut found = false;
     let mut i = MAX_CELLS;
     while 1 < i {
         i -= 1;
         let c = cells[i];
         let other = c.name;
-        found = comms::is_live(used, i as u64) & fields::same_name(other, name) | found;
+        found = comms::is_live(live_ids, i as u64) & fields::same_name(other, name) | found;
     }
     fields::same_name(root, name) | found
 }
 
 // Whether two regions of different cells may not both be: they meet, and are not both shared.
-pub fn conflict(r: MemRegion, s: MemRegion) -> bool
+fn conflict(r: MemRegion, s: MemRegion) -> bool
     ensures { λ q. ⌜ q ≡ conflict-of r s ⌝ }
 {
     !regions::is_comm(r)
@@ -55,14 +63,6 @@ fn conflicts_one(r: MemRegion, table: [MemRegion; MAX_REGIONS], count: usize) ->
         i += 1;
     }
     found
-}
-
-// Whether some region of a cell is in conflict with one of a table.
-fn conflicts(c: Cell, table: [MemRegion; MAX_REGIONS], count: usize) -> bool
-    ensures { λ q. ⌜ q ≡ conflicts-of (take (c .count) (c .regions)) (take count table) ⌝ }
-{
-    let mine = c.regions;
-    conflicts_all(mine, c.count, table, count)
 }
 
 // Whether some region of the first table is in conflict with one of the second.
@@ -86,78 +86,121 @@ fn conflicts_all(
 
 // Whether a region of a table is in conflict with one of a live cell.
 fn region_in_use(
-    used: u16,
+    live_ids: u16,
     cells: [Cell; MAX_CELLS],
     table: [MemRegion; MAX_REGIONS],
     count: usize,
 ) -> bool
-    ensures { λ q. ⌜ q ≡ regionInUse used cells (take count table) ⌝ }
+    ensures { λ q. ⌜ ((m : Machine) → m .«live_ids» ≡ «live_ids» → m .cells ≡ cells → q ≡ regionInUse (take count table) m) ⌝ }
 {
     let mut found = false;
     let mut i = MAX_CELLS;
     while 1 < i {
         i -= 1;
-        found = comms::is_live(used, i as u64) & conflicts(cells[i], table, count) | found;
+        let c = cells[i];
+        let mine = c.regions;
+        let meets = conflicts_all(mine, c.region_count, table, count);
+        found = comms::is_live(live_ids, i as u64) & meets | found;
     }
     found
 }
 
 // Whether a CPU or a region that the new cell wants is in use.
-fn resource_busy(
-    used: u16,
-    root: u64,
+fn is_busy(
+    live_ids: u16,
+    root_cpus: u64,
     cells: [Cell; MAX_CELLS],
     caller: u64,
     new: CellConfig,
 ) -> bool
-    ensures { λ q. ⌜ q ≡ resourceBusy used root cells caller new ⌝ }
+    ensures { λ q. ⌜ ((m : Machine) → m .«live_ids» ≡ «live_ids» → m .«root_cpus» ≡ «root_cpus» → m .cells ≡ cells → q ≡ busy caller new m) ⌝ }
 {
     let table = new.regions;
     cpu_set::contains(new.cpus, caller)
-        | !cpu_set::is_subset(new.cpus, root)
-        | region_in_use(used, cells, table, new.count)
+        | !cpu_set::is_subset(new.cpus, root_cpus)
+        | region_in_use(live_ids, cells, table, new.region_count)
+}
+
+// Whether a pool of `pages` has no room for one more cell of `count` regions.
+fn lacks_pages(pages: u32, pool_used: u32, count: usize) -> bool
+    ensures { λ q. ⌜ q ≡ ltb pages («pool_used» + poolCost count) ⌝ }
+{
+    let least = pool_used as usize + 2;
+    if (pages as usize) < least {
+        return true;
+    }
+    pages as usize - least < count
 }
 
 // Whether there is no ID or no room in the pool for the new cell.
-fn no_memory(boot: SystemConfig, used: u16, pool: u32, new: CellConfig) -> bool
-    ensures { λ q. ⌜ q ≡ noMemory boot used pool new ⌝ }
+fn no_room(pages: u32, pool_used: u32, live_ids: u16, new: CellConfig) -> bool
+    ensures { λ q. ⌜ ((m : Machine) → m .system .pool .pages ≡ pages → m .«pool_used» ≡ «pool_used» → m .«live_ids» ≡ «live_ids» → q ≡ noRoom new m) ⌝ }
 {
-    let room = boot.pool;
-    let wanted = pool as u64 + effects::pool_cost(new.count) as u64;
-    (comms::free_id(used) == MAX_CELLS) | ((room.pages as u64) < wanted)
+    (comms::free_id(live_ids) == MAX_CELLS) | lacks_pages(pages, pool_used, new.region_count)
 }
 
-// Create's first refusal, or 0.
-pub fn create_refusal(
-    boot: SystemConfig,
+// The refusals of a record that keeps its own rules: a name or something else that is in use, no
+// room.
+fn admit_new(
+    root: [u8; 32],
+    pages: u32,
+    pool_used: u32,
+    live_ids: u16,
+    root_cpus: u64,
     cells: [Cell; MAX_CELLS],
-    core: Core,
     caller: u64,
-    read: CellRead,
-) -> i32
-    ensures { λ r. ⌜ r ≡ createRefusal boot cells core caller read ⌝ }
+    new: CellConfig,
+) -> Admission
+    ensures { λ r. ⌜ ((m : Machine) → m .system .name ≡ root → m .system .pool .pages ≡ pages → m .«pool_used» ≡ «pool_used» → m .«live_ids» ≡ «live_ids» → m .«root_cpus» ≡ «root_cpus» → m .cells ≡ cells → Follows r (newRows caller new m) m) ⌝ }
 {
-    let comms = core.comms;
-    let new = read.config;
     let name = new.name;
-    let code = read.code;
-    if comms::is_locked_but(core.used, comms, 0) {
-        return EPERM;
+    if name_in_use(root, live_ids, cells, name) {
+        return Admission::Refused(Answer::Code(EEXIST));
     }
-    if code != 0 {
-        return code;
+    if is_busy(live_ids, root_cpus, cells, caller, new) {
+        return Admission::Refused(Answer::Code(EBUSY));
     }
-    if !cpu_set::is_subset(new.cpus, boot.cpus) {
-        return EINVAL;
+    if no_room(pages, pool_used, live_ids, new) {
+        return Admission::Refused(Answer::Code(ENOMEM));
     }
-    if name_in_use(boot, core.used, cells, name) {
-        return EEXIST;
+    Admission::Admitted
+}
+
+// Create's refusals, in their order.
+pub fn admit_create(
+    system: SystemConfig,
+    pool_used: u32,
+    live_ids: u16,
+    root_cpus: u64,
+    cells: [Cell; MAX_CELLS],
+    comms: [CommRegion; MAX_CELLS],
+    caller: u64,
+    record: &[u8],
+) -> Admission
+    ensures { λ r. ⌜ ((m : Machine) → m .system ≡ system → m .«pool_used» ≡ «pool_used» → m .«live_ids» ≡ «live_ids» → m .«root_cpus» ≡ «root_cpus» → m .cells ≡ cells → m .comms ≡ comms → Follows r (createRows caller (now («record» .entry)) m) m) ⌝ }
+{
+    if comms::is_locked_but(live_ids, comms, 0) {
+        return Admission::Refused(Answer::Code(EPERM));
     }
-    if resource_busy(core.used, core.root, cells, caller, new) {
-        return EBUSY;
+    if cell_record::MAX_LENGTH < record.len() {
+        return Admission::Refused(Answer::Code(E2BIG));
     }
-    if no_memory(boot, core.used, core.pool, new) {
-        return ENOMEM;
+    let new = cell_record::cell_of(record);
+    if !(cell_record::cell_form(record) & cell_record::cell_valid(system, new))
+        | !cpu_set::is_subset(new.cpus, system.cpus)
+    {
+        return Admission::Refused(Answer::Code(EINVAL));
     }
-    0
+    let root = system.name;
+    let pool = system.pool;
+    admit_new(
+        root,
+        pool.pages,
+        pool_used,
+        live_ids,
+        root_cpus,
+        cells,
+        caller,
+        new,
+    )
 }

@@ -1,172 +1,374 @@
-// Effects of calls on the machine's core: the parts that are small enough to be handed over whole.
-// The cell table, which is not, is changed in place beside them.
+// What the effect of a call makes of the machine's parts. The two shells that hold a machine, the
+// entry for one event and the loop over a log, store each part in its place.
 ghost use mathlib.Core.Path.{_≡_};
-ghost use Prim.Native.Nat.{_-_};
-ghost use lib.ListN.{set};
-ghost use Rattle.machine_state.specs.Machine.{commAt};
-ghost use Rattle.effects.specs.Effects.{single as single-of, addId, dropId, poolCost, createEffect, startEffect, loadableEffect, destroyEffect, disableEffect};
+ghost use mathlib.Core.Bool.{false};
+ghost use Prim.Native.Nat.{ℕ, _+_, _-_, _%_, _^_};
+ghost use Rattle.cell_record.specs.CellRecord.{cellOf};
+ghost use Rattle.machine_state.specs.declared.Machine.{Machine};
+ghost use mathlib.Core.List.{List, _∷_};
+ghost use Rattle.rules.specs.State.{withPower};
+ghost use Rattle.rules.specs.Effects.{poolCost, newCell, newComm, withPhase, clearWords, withState, effect as effect-of, allDestroyed, disabled};
+ghost use Rattle.asking.specs.Moves.{effectOf};
+ghost use Rattle.effects.specs.Parts.{isDisable, Finds, numbersAfter, within, cellAfter, wordsAfter};
+use asking::Effect;
+use cell_record::CellConfig;
 use cpu_table::CpuChange;
-use machine_state::Comm;
-use machine_state::Cpu;
+use machine_state::CallKind;
+use machine_state::Cell;
+use machine_state::CommRegion;
 use machine_state::MAX_CELLS;
-use machine_state::MAX_CPUS;
-use machine_state::Waiting;
+use machine_state::Machine;
+use machine_state::Phase;
+use machine_state::Power;
+use machine_state::SHUT_DOWN;
+use region_table::MAX_REGIONS;
 
-// The pool pages in use, the live IDs, root's CPUs, the words, the CPUs and the waiting call.
-pub struct Core {
-    pub pool: u32,
-    pub used: u16,
-    pub root: u64,
-    pub comms: [Comm; MAX_CELLS],
-    pub cpus: [Cpu; MAX_CPUS],
-    pub waiting: Waiting,
-}
-
-// What a cell holds: its CPUs, and its pages of the pool.
-pub struct Holding {
+// A cell that an effect is about: its place in the tables, and the CPUs and regions that it holds.
+// A number that is no cell's has place 0, and holds nothing.
+pub struct Target {
+    pub place: usize,
     pub cpus: u64,
-    pub pages: u32,
+    pub region_count: usize,
 }
 
-// The set of one ID; of none for a number from 64 up.
-pub fn single(id: usize) -> u64
-    ensures { λ r. ⌜ r ≡ single-of id ⌝ }
+// What an effect makes of the machine's numbers, and what it does to a set of CPUs.
+pub struct Numbers {
+    pub pool_used: u32,
+    pub live_ids: u16,
+    pub root_cpus: u64,
+    pub cpus: u64,
+    pub how: CpuChange,
+}
+
+// Whether the effect is Disable's, which is about every cell.
+pub fn is_disable(kind: CallKind) -> bool
+    ensures { λ r. ⌜ r ≡ isDisable kind ⌝ }
 {
-    if id < 64 { 1 << id } else { 0 }
+    match kind {
+        CallKind::Disable => true,
+        CallKind::Create => false,
+        CallKind::Start => false,
+        CallKind::SetLoadable => false,
+        CallKind::Destroy => false,
+    }
 }
 
-// The set of IDs with one more.
-fn add_id(used: u16, id: usize) -> u16
-    ensures { λ r. ⌜ r ≡ addId used id ⌝ }
-{
-    (cpu_set::union(used as u64, single(id)) % 0x1_0000) as u16
-}
-
-// The set of IDs with one less.
-fn drop_id(used: u16, id: usize) -> u16
-    ensures { λ r. ⌜ r ≡ dropId used id ⌝ }
-{
-    (cpu_set::without(used as u64, single(id)) % 0x1_0000) as u16
-}
-
-// The pool pages of a cell with `count` regions.
-pub fn pool_cost(count: usize) -> u32
-    ensures { λ r. ⌜ r ≡ poolCost count ⌝ }
-{
-    2 + region_table::used(count) as u32
-}
-
-// The words at a place; all zero past the table's end.
-pub fn comm_at(comms: [Comm; MAX_CELLS], id: usize) -> Comm
-    ensures { λ r. ⌜ r ≡ commAt comms id ⌝ }
+// The cell `id` in the tables.
+pub fn find(cells: [Cell; MAX_CELLS], comms: [CommRegion; MAX_CELLS], id: usize) -> Target
+    ensures { λ r. ⌜ Finds cells comms id r ⌝ }
 {
     if id < MAX_CELLS {
-        comms[id]
+        return Target {
+            place: id,
+            cpus: cells[id].cpus,
+            region_count: cells[id].region_count,
+        };
+    }
+    Target {
+        place: 0,
+        cpus: 0,
+        region_count: 0,
+    }
+}
+
+// A record's values where nothing was read.
+fn no_config() -> CellConfig {
+    let regions = [region_table::no_region(); MAX_REGIONS];
+    CellConfig {
+        name: [0; 32],
+        passive: false,
+        cpus: 0,
+        region_count: 0,
+        regions,
+    }
+}
+
+// The values of the record that an effect needs: only Create's does.
+pub fn config_for(kind: CallKind, record: &[u8]) -> CellConfig
+    ensures { λ r. ⌜ ((id : ℕ) (m : Machine) → effect-of kind id r m ≡ effect-of kind id (cellOf (now («record» .entry))) m) ⌝ }
+{
+    match kind {
+        CallKind::Disable => no_config(),
+        CallKind::Create => cell_record::cell_of(record),
+        CallKind::Start => no_config(),
+        CallKind::SetLoadable => no_config(),
+        CallKind::Destroy => no_config(),
+    }
+}
+
+// The pool with the pages of one more cell; a sum past the end goes round.
+fn pool_grown(pool_used: u32, regions: usize) -> u32
+    ensures { λ r. ⌜ r ≡ («pool_used» + poolCost regions) % 2 ^ 32 ⌝ }
+{
+    let wanted = std::num::wrapping_add_u32((regions % 0x1_0000_0000) as u32, 2);
+    std::num::wrapping_add_u32(pool_used, wanted)
+}
+
+// The pool without the pages of a cell; none where more are given back than there are.
+fn pool_given_back(pool_used: u32, regions: usize) -> u32
+    ensures { λ r. ⌜ r ≡ «pool_used» - poolCost regions ⌝ }
+{
+    let used = pool_used as usize;
+    if used < 2 {
+        return 0;
+    }
+    if used - 2 < regions {
+        return 0;
+    }
+    (used - 2 - regions) as u32
+}
+
+// The numbers after an effect on cell `id`, which is `target`; of Create, `cpus` and `regions` are
+// the record's.
+pub fn numbers_after(
+    kind: CallKind,
+    id: usize,
+    target: Target,
+    cpus: u64,
+    regions: usize,
+    pool_used: u32,
+    live_ids: u16,
+    root_cpus: u64,
+) -> Numbers
+    ensures { λ r. ⌜ r ≡ numbersAfter kind id (target .cpus) (target .«region_count») cpus regions «pool_used» «live_ids» «root_cpus» ⌝ }
+{
+    match kind {
+        CallKind::Disable => Numbers {
+            pool_used,
+            live_ids,
+            root_cpus,
+            cpus: 0,
+            how: CpuChange::Keep,
+        },
+        CallKind::Create => Numbers {
+            pool_used: pool_grown(pool_used, regions),
+            live_ids: comms::add_id(live_ids, id),
+            root_cpus: cpu_set::without(root_cpus, cpus),
+            cpus,
+            how: CpuChange::Give(id, true),
+        },
+        CallKind::Start => Numbers {
+            pool_used,
+            live_ids,
+            root_cpus,
+            cpus: target.cpus,
+            how: CpuChange::Start,
+        },
+        CallKind::SetLoadable => Numbers {
+            pool_used,
+            live_ids,
+            root_cpus,
+            cpus: target.cpus,
+            how: CpuChange::Stop,
+        },
+        CallKind::Destroy => Numbers {
+            pool_used: pool_given_back(pool_used, target.region_count),
+            live_ids: comms::drop_id(live_ids, id),
+            root_cpus: cpu_set::union(root_cpus, target.cpus),
+            cpus: target.cpus,
+            how: CpuChange::Give(0, false),
+        },
+    }
+}
+
+// A created cell.
+fn new_cell(new: CellConfig) -> Cell
+    ensures { λ r. ⌜ r ≡ newCell new ⌝ }
+{
+    let name = new.name;
+    let regions = new.regions;
+    Cell {
+        phase: Phase::Suspended,
+        name,
+        cpus: new.cpus,
+        region_count: new.region_count,
+        regions,
+    }
+}
+
+// A cell in another phase.
+fn with_phase(phase: Phase, c: Cell) -> Cell
+    ensures { λ r. ⌜ r ≡ withPhase phase c ⌝ }
+{
+    let name = c.name;
+    let regions = c.regions;
+    Cell {
+        phase,
+        name,
+        cpus: c.cpus,
+        region_count: c.region_count,
+        regions,
+    }
+}
+
+// A cell after an effect on it.
+fn changed_cell(kind: CallKind, new: CellConfig, c: Cell) -> Cell
+    ensures { λ r. ⌜ r ≡ cellAfter kind new c ⌝ }
+{
+    match kind {
+        CallKind::Disable => c,
+        CallKind::Create => new_cell(new),
+        CallKind::Start => with_phase(Phase::Started, c),
+        CallKind::SetLoadable => with_phase(Phase::Loading, c),
+        CallKind::Destroy => machine_state::no_cell(),
+    }
+}
+
+// What is stored at the place of cell `id`, where `c` stands.
+pub fn cell_after(kind: CallKind, id: usize, new: CellConfig, c: Cell) -> Cell
+    ensures { λ r. ⌜ r ≡ within id (cellAfter kind new c) c ⌝ }
+{
+    if id < MAX_CELLS {
+        changed_cell(kind, new, c)
     } else {
-        machine_state::no_comm()
+        c
     }
 }
 
-// The table with other words at a place; unchanged past its end.
-pub fn put_comm(comms: [Comm; MAX_CELLS], id: usize, c: Comm) -> [Comm; MAX_CELLS]
-    ensures { λ r. ⌜ r ≡ set comms id c ⌝ }
+// The communication words of a created cell.
+fn new_comm(new: CellConfig) -> CommRegion
+    ensures { λ r. ⌜ r ≡ newComm new ⌝ }
 {
-    let mut next = comms;
-    if id < MAX_CELLS {
-        next[id] = c;
+    let regions = new.regions;
+    CommRegion {
+        mapped: region_table::has_comm(regions, new.region_count),
+        passive: new.passive,
+        msg_to_cell: 0,
+        reply_from_cell: 0,
+        cell_state: SHUT_DOWN,
     }
+}
+
+// The words of a cell that starts.
+fn clear_words(w: CommRegion) -> CommRegion
+    ensures { λ r. ⌜ r ≡ clearWords w ⌝ }
+{
+    let mut next = w;
+    next.msg_to_cell = 0;
+    next.reply_from_cell = 0;
+    next.cell_state = 0;
     next
 }
 
-// Fewer pages, and none where more are given back than there are.
-fn given_back(pool: u32, pages: u32) -> u32
-    ensures { λ r. ⌜ r ≡ pool - pages ⌝ }
+// The words of a cell that is set loadable.
+fn shut_down(w: CommRegion) -> CommRegion
+    ensures { λ r. ⌜ r ≡ withState 2 w ⌝ }
 {
-    if pages <= pool { pool - pages } else { 0 }
+    let mut next = w;
+    next.cell_state = SHUT_DOWN;
+    next
 }
 
-// The core after a cell was created.
-pub fn create(core: Core, id: usize, held: Holding, words: Comm) -> Core
-    ensures { λ r. ⌜ r ≡ createEffect id held words core ⌝ }
+// The words of a cell after an effect on it.
+fn changed_words(kind: CallKind, new: CellConfig, w: CommRegion) -> CommRegion
+    ensures { λ r. ⌜ r ≡ wordsAfter kind new w ⌝ }
 {
-    let comms = core.comms;
-    let cpus = core.cpus;
-    let waiting = core.waiting;
-    Core {
-        pool: std::num::wrapping_add_u32(core.pool, held.pages),
-        used: add_id(core.used, id),
-        root: cpu_set::without(core.root, held.cpus),
-        comms: put_comm(comms, id, words),
-        cpus: cpu_table::change_cpus(held.cpus, CpuChange::Give(id, true), cpus),
+    match kind {
+        CallKind::Disable => w,
+        CallKind::Create => new_comm(new),
+        CallKind::Start => clear_words(w),
+        CallKind::SetLoadable => shut_down(w),
+        CallKind::Destroy => machine_state::no_comm(),
+    }
+}
+
+// What is stored at the place of cell `id`'s words, where `w` stands.
+pub fn words_after(kind: CallKind, id: usize, new: CellConfig, w: CommRegion) -> CommRegion
+    ensures { λ r. ⌜ r ≡ within id (wordsAfter kind new w) w ⌝ }
+{
+    if id < MAX_CELLS {
+        changed_words(kind, new, w)
+    } else {
+        w
+    }
+}
+
+// The machine after the effect of a call on one cell.
+fn on_cell(m: Machine, kind: CallKind, id: usize, new: CellConfig) -> Machine
+    ensures { λ r. ⌜ (isDisable kind ≡ false → r ≡ effect-of kind id new m) ⌝ }
+{
+    let mut next = m;
+    let cells = m.cells;
+    let comms = m.comms;
+    let target = find(cells, comms, id);
+    let i = target.place;
+    let numbers = numbers_after(
+        kind,
+        id,
+        target,
+        new.cpus,
+        new.region_count,
+        m.pool_used,
+        m.live_ids,
+        m.root_cpus,
+    );
+    let how = numbers.how;
+    let cpus = m.cpus;
+    next.pool_used = numbers.pool_used;
+    next.live_ids = numbers.live_ids;
+    next.root_cpus = numbers.root_cpus;
+    next.cells[i] = cell_after(kind, id, new, m.cells[i]);
+    next.comms[i] = words_after(kind, id, new, m.comms[i]);
+    next.cpus = cpu_table::change_cpus(numbers.cpus, how, cpus);
+    next
+}
+
+// The machine after cell `id`, if it is live, was destroyed.
+fn destroy_live(m: Machine, id: usize) -> Machine
+    ensures { λ r. ⌜ ((ids : List ℕ) → allDestroyed (id ∷ ids) m ≡ allDestroyed ids r) ⌝ }
+{
+    if comms::is_live(m.live_ids, id as u64) {
+        return on_cell(m, CallKind::Destroy, id, no_config());
+    }
+    m
+}
+
+// The machine, off.
+fn switch_off(m: Machine) -> Machine
+    ensures { λ r. ⌜ r ≡ withPower Power.Disabled m ⌝ }
+{
+    let system = m.system;
+    let cells = m.cells;
+    let comms = m.comms;
+    let cpus = m.cpus;
+    let waiting = m.waiting;
+    Machine {
+        power: Power::Disabled,
+        system,
+        pool_used: m.pool_used,
+        live_ids: m.live_ids,
+        root_cpus: m.root_cpus,
+        cells,
+        comms,
+        cpus,
         waiting,
     }
 }
 
-// The core after a cell was started.
-pub fn start(core: Core, id: usize, held: Holding) -> Core
-    ensures { λ r. ⌜ r ≡ startEffect id held core ⌝ }
+// The machine after Disable: all cells destroyed, then off.
+pub fn disable(m: Machine) -> Machine
+    ensures { λ r. ⌜ r ≡ disabled m ⌝ }
 {
-    let comms = core.comms;
-    let cpus = core.cpus;
-    let waiting = core.waiting;
-    let words = comms::started_words(comm_at(comms, id));
-    Core {
-        pool: core.pool,
-        used: core.used,
-        root: core.root,
-        comms: put_comm(comms, id, words),
-        cpus: cpu_table::change_cpus(held.cpus, CpuChange::Start, cpus),
-        waiting,
+    let mut next = m;
+    let mut i = 1;
+    while i < MAX_CELLS {
+        next = destroy_live(next, i);
+        i += 1;
     }
+    switch_off(next)
 }
 
-// The core after a cell was set loadable.
-pub fn set_loadable(core: Core, id: usize, held: Holding) -> Core
-    ensures { λ r. ⌜ r ≡ loadableEffect id held core ⌝ }
+// The machine after an effect. A call with code 1 comes with its record's bytes.
+pub fn carry_out(m: Machine, effect: Effect, record: &[u8]) -> Machine
+    ensures { λ r. ⌜ r ≡ effectOf effect (cellOf (now («record» .entry))) m ⌝ }
 {
-    let comms = core.comms;
-    let cpus = core.cpus;
-    let waiting = core.waiting;
-    let words = comms::with_state(comm_at(comms, id), 2);
-    Core {
-        pool: core.pool,
-        used: core.used,
-        root: core.root,
-        comms: put_comm(comms, id, words),
-        cpus: cpu_table::change_cpus(held.cpus, CpuChange::Stop, cpus),
-        waiting,
-    }
-}
-
-// The core after a cell was destroyed.
-pub fn destroy(core: Core, id: usize, held: Holding) -> Core
-    ensures { λ r. ⌜ r ≡ destroyEffect id held core ⌝ }
-{
-    let comms = core.comms;
-    let cpus = core.cpus;
-    let waiting = core.waiting;
-    Core {
-        pool: given_back(core.pool, held.pages),
-        used: drop_id(core.used, id),
-        root: cpu_set::union(core.root, held.cpus),
-        comms: put_comm(comms, id, machine_state::no_comm()),
-        cpus: cpu_table::change_cpus(held.cpus, CpuChange::Give(0, false), cpus),
-        waiting,
-    }
-}
-
-// The core after all cells, which hold `held` together, were destroyed.
-pub fn disable(core: Core, held: Holding) -> Core
-    ensures { λ r. ⌜ r ≡ disableEffect held core ⌝ }
-{
-    let cpus = core.cpus;
-    let waiting = core.waiting;
-    Core {
-        pool: given_back(core.pool, held.pages),
-        used: 1,
-        root: cpu_set::union(core.root, held.cpus),
-        comms: [machine_state::no_comm(); MAX_CELLS],
-        cpus: cpu_table::change_cpus(held.cpus, CpuChange::Give(0, false), cpus),
-        waiting,
+    match effect {
+        Effect::NoEffect => m,
+        Effect::Comes(kind, id) => {
+            if is_disable(kind) {
+                return disable(m);
+            }
+            on_cell(m, kind, id, config_for(kind, record))
+        }
     }
 }

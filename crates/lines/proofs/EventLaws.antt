@@ -59,6 +59,11 @@ create-exit-said w a b p h q cpu kind e f g i j =
     (create-kept (same w wordCreate) (isNumber 64 a) (isHex b) (value a) _ _
     (exit-kept (same w wordExit) (isNumber 64 a) (isNumber 64 b) (value a) (value b)))
 
+-- the test of a `create` line
+pub create-test : (w a b : List ℕ) (p h : Bool) (cpu : Number) → p ≡ same w wordCreate → cpu ≡ numberOf 64 a → h ≡ isHex b → (p && cpu .ok && h) ≡ isCreate w a b
+unfolding numberOf isCreate
+create-test w a b p h cpu e f g = rw (e, f, g)
+
 store-kept : (p x y z : Bool) (a b c : ℕ)
     → given (p && x && y && z) (Store (kept x a) (kept y b) (kept z c)) ≡ given (p && x && y && z) (Store a b c)
 store-kept false x y z a b c = refl

@@ -4,3 +4,4 @@ mod RecordLaws
 mod WordLaws
 mod NumberLaws
 mod PairLaws
+pub mod CutLaws

@@ -80,10 +80,6 @@ all-at p (x ∷ xs) (suc i) t h = all-at p xs i (and-right (p x) (all p xs) t) (
 all-digits : (w : List ℕ) → isPairs w ≡ true → T (all isHexDigit w)
 all-digits w e = and-right (eqb (length w % 2) 0) (all isHexDigit w) (holds (sym (pairs-all w) ∙ e))
 
-pub all-hex : (w : List ℕ) → isHex w ≡ true → T (all isHexDigit w)
-unfolding isHex
-all-hex w e = all-digits w (is-true (isPairs w) (and-right (leb 1 (length w)) (isPairs w) (holds e)))
-
 pub digit-at : (w : List ℕ) (i : ℕ) → isPairs w ≡ true → i < length w → isHexDigit (getD w i 0) ≡ true
 digit-at w i e h = is-true _ (all-at isHexDigit w i (all-digits w e) h)
 

@@ -1,29 +1,17 @@
--- Laws of records: the HEX of a line, found behind its second word, and the bytes that it makes. Assumes nothing.
-use mathlib.Core.Path.{_≡_, refl, sym, ap, _∙_, subst}
-use mathlib.Core.Bool.{Bool, true, false, _&&_, and-false, and-assoc}
-use mathlib.Core.Logic.{⊎-elim}
+-- Laws of records: the HEX of a line's words, and the bytes that it makes. Assumes nothing.
+use mathlib.Core.Path.{_≡_, refl, sym, ap, _∙_}
+use mathlib.Core.Bool.{Bool, true, false, _&&_}
 use mathlib.Core.List.{List, [], _∷_}
-use Prim.Native.Nat.{ℕ, suc, _<_, _≤_}
-use native.Mathlib.Omega.{arith}
-use borrow.Author.Tests.{le-leb, lt-leb, eqb-true}
-use lib.Dec.{T, leb, eqb}
-use lib.ListN.{length, drop}
-use Rattle.base.specs.Lists.{all, same}
-use Rattle.base.proofs.Tests.{le-or-lt, is-true, holds, and-left, and-right}
-use Rattle.lines.specs.Lines.{maxLine, space, wordsOf, isNumber, isHexDigit, isPairs, isHex, bytesOf, wordCreate, isCreate, recordOf, lineRecord}
-use Rattle.lines.specs.Reading.{untilSpace, numberOf, hexWord, lineHex}
-use Rattle.lines.specs.declared.numbers.Number.{Number}
-use Rattle.lines.proofs.WordLaws.{first-word, only-word, some-word}
-use Rattle.lines.proofs.PairLaws.{all-hex}
+use Prim.Native.Nat.{ℕ, _<_, _≤_}
+use borrow.Author.Tests.{le-leb, lt-leb}
+use lib.Dec.{leb}
+use lib.ListN.{length}
+use Rattle.base.specs.Lists.{same}
+use Rattle.base.proofs.Tests.{is-true, holds, and-right}
+use Rattle.lines.specs.Lines.{maxLine, wordsOf, isNumber, isPairs, isHex, bytesOf, wordCreate, isCreate, recordOf, lineRecord}
+use Rattle.lines.specs.Reading.{hexWord, lineHex}
 
 -- ---- the HEX of a line's words
-
-pub other-line : (w : List ℕ) (ws : List (List ℕ)) → same w wordCreate ≡ false → [] ≡ hexWord (w ∷ ws)
-unfolding hexWord isCreate
-other-line w [] e = refl
-other-line w (a ∷ []) e = refl
-other-line w (a ∷ b ∷ []) e = rw (e, hexWord)
-other-line w (a ∷ b ∷ c ∷ ws) e = refl
 
 pub one-word-only : (w : List ℕ) → [] ≡ hexWord (w ∷ [])
 unfolding hexWord
@@ -33,43 +21,9 @@ pub two-words-only : (w a : List ℕ) → [] ≡ hexWord (w ∷ a ∷ [])
 unfolding hexWord
 two-words-only w a = refl
 
--- a space is no digit
-no-space : (h : List ℕ) → T (all isHexDigit h) → length h ≤ untilSpace h
-unfolding all untilSpace
-no-space [] t = omega arith
-no-space (b ∷ bs) t = by-test (eqb b space) refl (no-space bs (and-right (isHexDigit b) (all isHexDigit bs) t))
-  where
-    by-test : (x : Bool) → eqb b space ≡ x → length bs ≤ untilSpace bs
-        → suc (length bs) ≤ elim x as (λ x. ℕ) [ true ↦ 0 | false ↦ suc (untilSpace bs) ]
-    by-test true e h = absurd (subst (λ (n : ℕ). T (isHexDigit n)) (eqb-true b space e) (and-left (isHexDigit b) (all isHexDigit bs) t))
-    by-test false e h = omega arith
-
--- what stands behind the second word of a `create` line, by the tests of that word and of the rest
-module _ (w a h : List ℕ) (cpu : Number) (ok : Bool) (e : cpu ≡ numberOf 64 a) (f : ok ≡ isHex h) where
-  tests : (cpu .ok && ok) ≡ (isNumber 64 a && isHex h)
-  unfolding numberOf
-  tests = rw (e, f)
-
-  create-is : isCreate w a h ≡ (same w wordCreate && (cpu .ok && ok))
-  unfolding isCreate
-  create-is = and-assoc (same w wordCreate) (isNumber 64 a) (isHex h) ∙ ap (λ (t : Bool). same w wordCreate && t) (sym tests)
-
-  pub hex-found : same w wordCreate ≡ true → (cpu .ok && ok) ≡ true → h ≡ hexWord (w ∷ a ∷ wordsOf h)
-  unfolding hexWord
-  hex-found p t = rw (only-word h (no-space h (all-hex h hex)), create-is, p, t, hexWord)
-    where
-      hex : isHex h ≡ true
-      hex = is-true (isHex h) (and-right (isNumber 64 a) (isHex h) (holds (sym tests ∙ t)))
-
-  pub hex-missed : (cpu .ok && ok) ≡ false → [] ≡ hexWord (w ∷ a ∷ wordsOf h)
-  unfolding hexWord
-  hex-missed t = ⊎-elim last more (le-or-lt (length h) (untilSpace h))
-    where
-      last : length h ≤ untilSpace h → [] ≡ hexWord (w ∷ a ∷ wordsOf h)
-      last l = rw (only-word h l, create-is, t, and-false (same w wordCreate), hexWord)
-
-      more : untilSpace h < length h → [] ≡ hexWord (w ∷ a ∷ wordsOf h)
-      more l = rw (first-word h l, some-word (drop (suc (untilSpace h)) h) .2)
+pub more-words : (w a b c : List ℕ) (ws : List (List ℕ)) → [] ≡ hexWord (w ∷ a ∷ b ∷ c ∷ ws)
+unfolding hexWord
+more-words w a b c ws = refl
 
 -- ---- the HEX of a line, and its record
 

@@ -37,10 +37,13 @@ until-le (b ∷ bs) = by-test (eqb b space) (until-le bs)
     by-test true h = omega arith
     by-test false h = omega arith
 
+pub start-le : (s : List ℕ) (at e : ℕ) → e ≡ wordEnd at s → at ≤ e
+start-le s at e q = omega arith
+
 pub end-le : (s : List ℕ) (at e : ℕ) → e ≡ wordEnd at s → at ≤ length s → e ≤ length s
 end-le s at e q h = omega (arith, until-le (drop at s), length-drop at s)
 
-pub first-word : (s : List ℕ) → untilSpace s < length s → wordsOf s ≡ take (untilSpace s) s ∷ wordsOf (drop (suc (untilSpace s)) s)
+first-word : (s : List ℕ) → untilSpace s < length s → wordsOf s ≡ take (untilSpace s) s ∷ wordsOf (drop (suc (untilSpace s)) s)
 unfolding untilSpace wordsOf intoFirst
 first-word [] h = absurd (not-suc-le-zero h)
 first-word (b ∷ bs) h = by-test (eqb b space) (first-word bs) h
@@ -53,7 +56,7 @@ first-word (b ∷ bs) h = by-test (eqb b space) (first-word bs) h
     by-test true f k = refl
     by-test false f k = rw (f (omega arith))
 
-pub only-word : (s : List ℕ) → length s ≤ untilSpace s → wordsOf s ≡ s ∷ []
+only-word : (s : List ℕ) → length s ≤ untilSpace s → wordsOf s ≡ s ∷ []
 unfolding untilSpace wordsOf intoFirst
 only-word [] h = refl
 only-word (b ∷ bs) h = by-test (eqb b space) (only-word bs) h
@@ -100,6 +103,3 @@ some-word (b ∷ bs) = by-test (eqb b space) (some-word bs)
         × (elim t as (λ x. List (List ℕ)) [ true ↦ [] ∷ wordsOf bs | false ↦ intoFirst b (wordsOf bs) ] ≡ w ∷ ws)
     by-test true r = ([], wordsOf bs, refl)
     by-test false r = (b ∷ r .0, r .1, ap (intoFirst b) (r .2))
-
-pub word-first : (s : List ℕ) (at e : ℕ) → e ≡ wordEnd at s → (ws : List (List ℕ)) × (wordsOf (drop at s) ≡ take (e - at) (drop at s) ∷ ws)
-word-first s at e q = ⊎-elim (λ h. ([], word-last s at e q h)) (λ h. (wordsOf (drop (e + 1) s), word-more s at e q h)) (le-or-lt (length s) e)

@@ -1,13 +1,16 @@
--- What the functions inside this crate read of a line: where a word ends, a number with its test, the digits of a record. No contract of
--- a public function cites these.
+-- What is read of a line: where a word ends, a number with its test, the digits of a record; and of the whole line, its event and record.
+use mathlib.Core.Path.{_≡_}
 use mathlib.Core.Bool.{Bool, true, false, _&&_}
-use mathlib.Core.List.{List, [], _∷_}
-use Prim.Native.Nat.{ℕ, suc, _+_, _-_, _*_, _^_}
+use mathlib.Core.List.{List, [], _∷_, _++_}
+use Prim.Native.Nat.{ℕ, suc, _+_, _-_, _*_, _^_, _≤_, min}
 use lib.Dec.{leb, ltb, eqb}
-use lib.ListN.{length, drop}
+use lib.ListN.{length, take, drop}
 use Rattle.base.specs.Lists.{all}
-use Rattle.lines.specs.Lines.{maxLine, space, wordsOf, isDigit, valueFrom, value, isNumber, isCreate}
+use Rattle.lines.specs.Lines.{maxLine, space, wordsOf, isDigit, valueFrom, value, isNumber, isCreate, eventOf, lineEvent, lineRecord}
 use Rattle.lines.specs.declared.numbers.Number.{Number}
+use Rattle.lines.specs.declared.ThreeWords.{ThreeWords}
+use Rattle.lines.specs.declared.Cut.{Cut}
+use Rattle.lines.specs.declared.Line.{Line}
 
 -- how many bytes stand before the first space
 unfoldable pub untilSpace : List ℕ → ℕ
@@ -47,3 +50,24 @@ hexWord (w ∷ a ∷ b ∷ c ∷ ws) = []
 
 unfoldable pub lineHex : List ℕ → List ℕ
 lineHex line = elim (leb (length line) maxLine) [ true ↦ hexWord (wordsOf line) | false ↦ [] ]
+
+-- three words: their event, and whether the third is HEX
+pub record Three (w a b : List ℕ) (r : ThreeWords) : Type 0 where
+  pub event : r .event ≡ eventOf (w ∷ a ∷ b ∷ [])
+  pub create : r .create ≡ isCreate w a b
+
+abbrev pub ending : Bool → ℕ → ℕ → ℕ
+ending create from to = elim create [ true ↦ to | false ↦ from ]
+
+-- a line cut into words: its event, and its HEX at its place
+pub record Cuts (line : List ℕ) (r : Cut) : Type 0 where
+  pub event : r .event ≡ lineEvent line
+  pub hex : take (r .«hex_end» - r .hex) (drop (r .hex) line) ≡ lineHex line
+  pub starts : r .hex ≤ r .«hex_end»
+  pub ends : r .«hex_end» ≤ length line
+
+-- a line read: its event, and its record, which stands at the start of the bytes given, as far as it fits
+pub record ReadsLine (line before : List ℕ) (r : Line) (after : List ℕ) : Type 0 where
+  pub event : r .event ≡ lineEvent line
+  pub size : r .len ≡ min (length (lineRecord line)) (length before)
+  pub bytes : after ≡ take (r .len) (lineRecord line) ++ drop (r .len) before

@@ -6,7 +6,7 @@ use lib.IntN.{ℤ, pos, negsuc}
 use Rattle.system_record.specs.declared.SystemRead.{SystemRead}
 use Rattle.system_record.specs.SystemRecord.{readSystem, bootAnswer, systemOf}
 use Rattle.machine_state.specs.declared.Power.{Power}
-use Rattle.machine_state.specs.declared.Power.the-variants.{Off, On}
+use Rattle.machine_state.specs.declared.Power.the-variants.{Unbooted, On}
 use Rattle.machine_state.specs.declared.Machine.{Machine}
 use Rattle.machine_state.specs.declared.Booted.{Booted}
 use Rattle.machine_state.specs.Machine.{firstMachine, powerAfter, bootOf}
@@ -15,7 +15,7 @@ pub power-on : (z : ℤ) → z ≡ pos 0 → On ≡ powerAfter z
 unfolding powerAfter
 power-on z e = rw (e, powerAfter)
 
-pub power-off : (z : ℤ) → (z ≡ pos 0 → ⊥) → Off ≡ powerAfter z
+pub power-off : (z : ℤ) → (z ≡ pos 0 → ⊥) → Unbooted ≡ powerAfter z
 unfolding powerAfter
 power-off (pos zero) n = absurd (n refl)
 power-off (pos (suc k)) n = refl

@@ -20,15 +20,48 @@ pub struct Cpu {
     pub counters: [u32; 6],
 }
 
-// A cell's communication words: message to the cell, message from it, its state; whether it has a
+// The communication words of a cell: the message to it, its reply, its state; whether it has a
 // communication region at all, and whether it is passive, so that it is never messaged.
-pub struct Comm {
+pub struct CommRegion {
     pub mapped: bool,
     pub passive: bool,
-    pub to: u32,
-    pub from: u32,
-    pub state: u32,
+    pub msg_to_cell: u32,
+    pub reply_from_cell: u32,
+    pub cell_state: u32,
 }
+
+// What the state word says: running, running with the configuration locked, shut down, failed.
+pub const RUNNING: u32 = 0;
+
+pub const RUNNING_LOCKED: u32 = 1;
+
+pub const SHUT_DOWN: u32 = 2;
+
+pub const FAILED: u32 = 3;
+
+// The messages to a cell, and the reply that consents to the first.
+pub const SHUTDOWN_REQUEST: u32 = 1;
+
+pub const RECONFIG_COMPLETED: u32 = 2;
+
+pub const REQUEST_APPROVED: u32 = 3;
+
+// The codes of the calls.
+pub const HYPERVISOR_DISABLE: u32 = 0;
+
+pub const CELL_CREATE: u32 = 1;
+
+pub const CELL_START: u32 = 2;
+
+pub const CELL_SET_LOADABLE: u32 = 3;
+
+pub const CELL_DESTROY: u32 = 4;
+
+pub const HYPERVISOR_GET_INFO: u32 = 5;
+
+pub const CELL_GET_STATE: u32 = 6;
+
+pub const CPU_GET_INFO: u32 = 7;
 
 pub enum Phase {
     Suspended,
@@ -41,12 +74,12 @@ pub struct Cell {
     pub phase: Phase,
     pub name: [u8; 32],
     pub cpus: u64,
-    pub count: usize,
+    pub region_count: usize,
     pub regions: [MemRegion; MAX_REGIONS],
 }
 
 // The calls that may wait for cells.
-pub enum Kind {
+pub enum CallKind {
     Disable,
     Create,
     Start,
@@ -63,27 +96,28 @@ pub struct Stage {
 }
 
 pub enum Waiting {
-    Nothing,
-    Call(Kind, Stage),
+    NoCall,
+    Pending(CallKind, Stage),
 }
 
-// Not booted yet, running, or disabled again.
+// Not booted yet, on, or disabled again.
 pub enum Power {
-    Off,
+    Unbooted,
     On,
     Disabled,
 }
 
-// `pool` counts the pool pages in use, `used` is the set of the live cells' IDs, root's 0 included,
-// and `root` the CPUs of the root cell. Place 0 of `cells` and `comms` stays empty.
+// `system` is the record of the start, `pool_used` counts the pool pages in use, `live_ids` is the
+// set of the live cells' IDs, root's 0 included, and `root_cpus` the CPUs of the root cell. Place 0
+// of `cells` and `comms` stays empty.
 pub struct Machine {
     pub power: Power,
-    pub boot: SystemConfig,
-    pub pool: u32,
-    pub used: u16,
-    pub root: u64,
+    pub system: SystemConfig,
+    pub pool_used: u32,
+    pub live_ids: u16,
+    pub root_cpus: u64,
     pub cells: [Cell; MAX_CELLS],
-    pub comms: [Comm; MAX_CELLS],
+    pub comms: [CommRegion; MAX_CELLS],
     pub cpus: [Cpu; MAX_CPUS],
     pub waiting: Waiting,
 }
@@ -125,6 +159,46 @@ pub struct Stepped {
     pub machine: Machine,
 }
 
+// The number of a page of physical memory.
+pub struct PhysPage(pub u64);
+
+// The number of a page as a cell sees its memory.
+pub struct CellPage(pub u64);
+
+// What a cell may do with a page.
+pub struct Access {
+    pub read: bool,
+    pub write: bool,
+    pub execute: bool,
+}
+
+// Who owns a physical page.
+pub enum Owner {
+    Hypervisor,
+    Cell(usize),
+    Shared,
+    Root,
+    Nobody,
+}
+
+// What a page of a cell is mapped to.
+pub enum Mapping {
+    Page(PhysPage, Access),
+    Comm,
+    Unmapped,
+}
+
+// A word or a byte of a communication region; none past its end and where the cell has no region.
+pub enum RegionWord {
+    NoWord,
+    Word(u32),
+}
+
+pub enum RegionByte {
+    NoByte,
+    Byte(u8),
+}
+
 // A CPU as it is when a cell gets it: unfailed, its counters zero.
 pub fn fresh_cpu(cell: usize, stopped: bool) -> Cpu
     ensures { λ r. ⌜ r ≡ freshCpu cell stopped ⌝ }
@@ -138,15 +212,15 @@ pub fn fresh_cpu(cell: usize, stopped: bool) -> Cpu
 }
 
 // The communication words of a place that no cell has.
-pub fn no_comm() -> Comm
+pub fn no_comm() -> CommRegion
     ensures { λ r. ⌜ r ≡ noComm ⌝ }
 {
-    Comm {
+    CommRegion {
         mapped: false,
         passive: false,
-        to: 0,
-        from: 0,
-        state: 0,
+        msg_to_cell: 0,
+        reply_from_cell: 0,
+        cell_state: 0,
     }
 }
 
@@ -159,26 +233,26 @@ pub fn no_cell() -> Cell
         phase: Phase::Suspended,
         name: [0; 32],
         cpus: 0,
-        count: 0,
+        region_count: 0,
         regions,
     }
 }
 
 // A machine with no cell but root, which has all boot CPUs, running.
-fn first_machine(power: Power, boot: SystemConfig) -> Machine
-    ensures { λ r. ⌜ r ≡ firstMachine power boot ⌝ }
+fn first_machine(power: Power, system: SystemConfig) -> Machine
+    ensures { λ r. ⌜ r ≡ firstMachine power system ⌝ }
 {
-    let pool = boot.pool;
+    let pool = system.pool;
     Machine {
         power,
-        boot,
-        pool: pool.used,
-        used: 1,
-        root: boot.cpus,
+        system,
+        pool_used: pool.used,
+        live_ids: 1,
+        root_cpus: system.cpus,
         cells: [no_cell(); MAX_CELLS],
         comms: [no_comm(); MAX_CELLS],
         cpus: [fresh_cpu(0, false); MAX_CPUS],
-        waiting: Waiting::Nothing,
+        waiting: Waiting::NoCall,
     }
 }
 
@@ -193,7 +267,7 @@ pub fn boot(s: &[u8]) -> Booted
         let machine = first_machine(Power::On, config);
         Booted { code, machine }
     } else {
-        let machine = first_machine(Power::Off, config);
+        let machine = first_machine(Power::Unbooted, config);
         Booted { code, machine }
     }
 }

@@ -1,51 +1,71 @@
 // The manager's one entry for the shim: a machine, one event, one answer.
-//
-// Most events change one CPU or one cell's words, or nothing: they are answered by the fast path,
-// and the machine is handed back with those parts changed in place.
 ghost use mathlib.Core.Path.{_≡_};
-ghost use Rattle.machine.specs.Step.{step as step-of};
-use fast_path::Seen;
+ghost use Rattle.rules.specs.State.{withWaiting};
+ghost use Rattle.rules.specs.Step.{step as step-of};
 use machine_state::Event;
 use machine_state::Machine;
 use machine_state::Stepped;
+use machine_state::Waiting;
+
+// The machine with another waiting call.
+pub fn with_waiting(m: Machine, waiting: Waiting) -> Machine
+    ensures { λ r. ⌜ r ≡ withWaiting waiting m ⌝ }
+{
+    let power = m.power;
+    let system = m.system;
+    let cells = m.cells;
+    let comms = m.comms;
+    let cpus = m.cpus;
+    Machine {
+        power,
+        system,
+        pool_used: m.pool_used,
+        live_ids: m.live_ids,
+        root_cpus: m.root_cpus,
+        cells,
+        comms,
+        cpus,
+        waiting,
+    }
+}
 
 // One event: its answer and the machine after it. A call with code 1 comes with its record's bytes.
 pub fn step(m: Machine, e: Event, record: &[u8]) -> Stepped
     ensures { λ r. ⌜ r ≡ step-of e (now («record» .entry)) m ⌝ }
 {
     let power = m.power;
+    let system = m.system;
+    let cells = m.cells;
+    let comms = m.comms;
+    let cpus = m.cpus;
     let waiting = m.waiting;
-    let look = fast_path::look_at(e, waiting);
-    let own = look.cpu;
-    let other = look.other;
-    let cell = look.cell;
-    let p = m.cpus[own];
-    let home = fast_path::cell_place(p.cell as u64);
-    let seen = Seen {
+    let d = decide::decide(
         power,
-        boot: m.boot.cpus,
-        pages: m.boot.pool,
-        remap: m.boot.remap,
-        pool: m.pool,
-        used: m.used,
+        system,
+        m.pool_used,
+        m.live_ids,
+        m.root_cpus,
+        cells,
+        comms,
+        cpus,
         waiting,
-        cpu: p,
-        words: m.comms[home],
-        other: m.cpus[other],
-        asked: m.comms[cell],
-    };
-    let fast = fast_path::fast_step(e, seen);
-    if fast.taken {
-        let mut next = m;
-        let after = fast.cpu;
-        let words = fast.words;
-        let answer = fast.answer;
-        next.cpus[own] = after;
-        next.comms[home] = words;
-        return Stepped {
-            answer,
-            machine: next,
-        };
+        e,
+        record,
+    );
+    let cpu = d.cpu;
+    let touch = d.touch;
+    let moves = d.moves;
+    let effect = moves.effect;
+    let cell = moves.cell;
+    let words = moves.words;
+    let answer = moves.answer;
+    let call = moves.waiting;
+    let mut next = m;
+    next.cpus[cpu] = cpu_table::change_cpu(m.cpus[cpu], touch);
+    next = effects::carry_out(next, effect, record);
+    next.comms[cell] = comms::change_words(next.comms[cell], words);
+    Stepped {
+        answer,
+        machine: with_waiting(next, call),
     }
-    machine::step(m, e, record)
 }

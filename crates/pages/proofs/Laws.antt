@@ -1,39 +1,36 @@
--- Laws of the page questions: a page in a range, the first region that has one, the first cell that has one, and that a number from 2^36
--- up belongs to nobody and maps to nothing. Linear arithmetic, and induction on lists. Assumes nothing.
-use mathlib.Core.Path.{_≡_, refl, sym, ap, _∙_}
-use mathlib.Core.Bool.{Bool, true, false, not, _&&_, _||_, and-false}
+-- Laws of the page questions: a page in a range, the first region that has one, what one look at a table or at all cells finds. Linear
+-- arithmetic, and induction on lists. Assumes nothing.
+use mathlib.Core.Path.{_≡_, refl, sym, ap, subst, _∙_}
+use mathlib.Core.Bool.{Bool, true, false, not, _&&_, _||_, and-true, and-false}
 use mathlib.Core.List.{List, [], _∷_}
 use Prim.Native.Nat.{ℕ, suc, _+_, _-_, _*_, _/_, _^_, _≤_, _<_, min}
 use native.Mathlib.Nat.{div-le-of-le-mul, mul-le-mul-right}
 use native.Mathlib.Numerals.{add-one}
 use native.Mathlib.Omega.{arith}
-use borrow.Author.Tests.{lt-ltb, le-ltb, le-leb, lt-leb, ltb-true, leb-true}
-use lib.Dec.{T, leb, ltb, eqb}
+use borrow.Author.Tests.{lt-ltb, le-ltb, le-leb, lt-leb, ltb-true, leb-true, not-true, not-false}
+use lib.Dec.{T, leb, ltb}
 use lib.ListN.{length, take, drop, getD, length-take, drop-of-length-le}
 use lib.Seq.{drop-cons, getD-take}
 use Rattle.base.specs.Lists.{all, any, from}
-use Rattle.base.specs.Rules.{Refusal, firstRule}
+use Rattle.base.proofs.Lists.{any-none, any-turn}
 use Rattle.base.proofs.Tests.{equal-leb, is-true, holds, and-left, and-right}
 use Rattle.regions.specs.declared.MemRegion.{MemRegion}
-use Rattle.regions.specs.Regions.{noRegion}
+use Rattle.regions.specs.Regions.{noRegion, comm, loadable, shared}
 use Rattle.cpu_set.specs.CpuSet.{bit}
-use Rattle.system_record.specs.declared.SystemConfig.{SystemConfig}
-use Rattle.system_record.specs.SystemRecord.{bootRegions}
 use Rattle.machine_state.specs.declared.Cell.{Cell}
+use Rattle.machine_state.specs.declared.CellPage.{CellPage}
+use Rattle.machine_state.specs.declared.PhysPage.{PhysPage}
+use Rattle.machine_state.specs.declared.Owner.{Owner}
 use Rattle.machine_state.specs.declared.Machine.{Machine}
-use Rattle.machine_state.specs.Machine.{live, cellAt, maxCells}
-use Rattle.comms.specs.Comms.{first, cellIds}
-use Rattle.comms.proofs.Laws.{firstFrom}
-use Rattle.pages.specs.declared.CellPage.{CellPage}
-use Rattle.pages.specs.declared.PhysPage.{PhysPage}
-use Rattle.pages.specs.declared.Owner.{Owner}
-use Rattle.pages.specs.declared.Owner.the-variants as Owner
-use Rattle.pages.specs.declared.Mapping.{Mapping}
-use Rattle.pages.specs.declared.Mapping.the-variants.{Nothing}
-use Rattle.pages.specs.declared.Claim.{Claim}
-use Rattle.pages.specs.declared.Claim.the-variants as Claim
-use Rattle.pages.specs.Pages.{hasPage, hasPhys, hasVirt, booted, regionHas, cellHas, liveHas, held, holder, hypervisorHas, bootHas, ownerOf, rootMayTouch}
-use Rattle.pages.specs.Pages.{regionFor, mapped, cellMapping, touchable, rootMapping, mappingOf}
+use Rattle.machine_state.specs.Machine.{cellIn, maxCells}
+use Rattle.rules.specs.State.{hasId, live, regionsAt, first, cellIds}
+use Rattle.rules.specs.Pages.{hasPage, hasPhys, hasVirt, owns, shares, loads, isLoading, hasBooted, cellMayTouch, hypervisorHas, bootHas, ownerOf, openToRoot, rootMayTouch, regionFor}
+use Rattle.comms.specs.Choice.{choice}
+use Rattle.comms.proofs.Laws.{firstFrom, anyFrom, first-turn}
+use Rattle.comms.proofs.Laws as Ids
+use Rattle.pages.specs.declared.Sight.{Sight}
+use Rattle.pages.specs.declared.Holders.{Holders}
+use Rattle.pages.specs.Seen.{Sees, Found, ownerBy}
 
 -- ---- a page in a range: the code's tests, which form no end, say what the definition says
 
@@ -94,33 +91,9 @@ module _ (p : CellPage) (xs : List MemRegion) (count n m : ℕ) (size : length x
   unfolding regionFor
   region-none h = let l = in-use in let past : length (take count xs) ≤ i = omega arith in rw (drop-of-length-le (take count xs) past)
 
--- ---- the first ID that passes a test, in a loop that goes up the IDs
+-- ---- the first ID that passes a test
 
 module _ (p : ℕ → Bool) where
-  first-at : (i n : ℕ) → p i ≡ true → i ≡ first p (from i (suc n))
-  unfolding first from
-  first-at i n e = rw (e, first)
-
-  first-past : (i n : ℕ) → p i ≡ false → first p (from i (suc n)) ≡ first p (from (suc i) n)
-  unfolding first from
-  first-past i n e = rw (e, first)
-
-  module _ (i : ℕ) (low : i < maxCells) where
-    more : maxCells - i ≡ suc (maxCells - (i + 1))
-    more = omega arith
-
-    pub first-here : p i ≡ true → i ≡ firstFrom p i
-    first-here e = first-at i (maxCells - (i + 1)) e ∙ ap (λ (n : ℕ). first p (from i n)) (sym more)
-
-    pub first-next : p i ≡ false → firstFrom p i ≡ firstFrom p (i + 1)
-    first-next e =
-        ap (λ (n : ℕ). first p (from i n)) more ∙ first-past i (maxCells - (i + 1)) e
-        ∙ ap (λ (m : ℕ). first p (from m (maxCells - (i + 1)))) (sym (add-one i))
-
-  pub first-end : (i : ℕ) → i ≤ maxCells → maxCells ≤ i → i ≡ firstFrom p i
-  unfolding first from
-  first-end i l h = let e : i ≡ maxCells = omega arith in rw e
-
   -- there is a first one below 16 where there is one at all
   first-any : (ks : List ℕ) → T (all (λ k. ltb k maxCells) ks) → ltb (first p ks) maxCells ≡ any p ks
   unfolding first any all
@@ -132,103 +105,124 @@ module _ (p : ℕ → Bool) where
       by-test true e = is-true _ (and-left (ltb k maxCells) (all (λ j. ltb j maxCells) ks) t)
       by-test false e = e
 
-  pub first-found : ltb (first p cellIds) maxCells ≡ any p cellIds
+  first-found : ltb (first p cellIds) maxCells ≡ any p cellIds
   unfolding from all
   first-found = first-any cellIds tt
 
-pub held-found : (claim : Claim) (used : ℕ) (cells : List Cell) (p : PhysPage) (id : ℕ)
-    → id ≡ holder claim used cells p → ltb id maxCells ≡ held claim used cells p
-unfolding holder held
-held-found claim used cells p id e = ap (λ (n : ℕ). ltb n maxCells) e ∙ first-found (liveHas claim used cells p)
-
 -- a live cell has its place in the table
-pub live-below : (used id : ℕ) → live used id ≡ true → id < maxCells
-unfolding live
+live-below : (used id : ℕ) → hasId used id ≡ true → id < maxCells
+unfolding hasId
 live-below used id = by-test (ltb id maxCells) refl
   where
     by-test : (b : Bool) → ltb id maxCells ≡ b → elim b as (λ x. Bool) [ true ↦ bit id used | false ↦ false ] ≡ true → id < maxCells
     by-test true e t = ltb-true id maxCells e
     by-test false e t = absurd (holds t)
 
+pub live-place : (ids id : ℕ) (found : Bool) → found ≡ hasId ids id → not found ≡ false → id < maxCells
+live-place ids id found e n = live-below ids id (sym e ∙ not-false found n)
+
 -- a place's offset in a table of cells fits
 pub place-fits : (id size : ℕ) → id < maxCells → size < 2 ^ 60 → id * size < 2 ^ 64
 place-fits id size h l = let m : id * size ≤ 16 * size = mul-le-mul-right size (omega arith) in omega arith
 
--- ---- "Numbers from 2^36 up belong to nobody and map to nothing"
+-- ---- what a look at a table has found after i of its regions
 
-any-false : {A : Type 0} (q : A → Bool) (xs : List A) → ((x : A) → q x ≡ false) → any q xs ≡ false
-unfolding any
-any-false q [] e = refl
-any-false q (x ∷ xs) e = rw (e x, any-false q xs e)
+pub sees-none : (p : PhysPage) (table : List MemRegion) → Sees p (take 0 table) (record { any = false; own = false; shared = false; loadable = false; touch = false })
+sees-none p table = record {
+  at-all = any-none _ table;
+  as-own = any-none _ table;
+  as-shared = any-none _ table;
+  as-loadable = any-none _ table;
+  as-touched = any-none _ table;
+}
 
--- no rule but one that answers nobody
-nobody-else : (rs : List (Refusal Owner)) → T (all (λ r. not (r .when)) rs) → firstRule rs Owner.Nobody ≡ Owner.Nobody
-unfolding firstRule all
-nobody-else [] t = refl
-nobody-else (r ∷ rs) t = by-test (r .when) t (nobody-else rs)
-  where
-    by-test : (b : Bool) → T (not b && all (λ s. not (s .when)) rs) → (T (all (λ s. not (s .when)) rs) → firstRule rs Owner.Nobody ≡ Owner.Nobody)
-        → elim b as (λ x. Owner) [ true ↦ r .code | false ↦ firstRule rs Owner.Nobody ] ≡ Owner.Nobody
-    by-test true u f = absurd u
-    by-test false u f = f u
+pub sees-all : (p : PhysPage) (rs ss : List MemRegion) (s : Sight) → rs ≡ ss → Sees p rs s → Sees p ss s
+sees-all p rs ss s e f = subst (λ (l : List MemRegion). Sees p l s) e f
 
-nobody-first : (b : Bool) (rs : List (Refusal Owner)) → T (all (λ r. not (r .when)) rs)
-    → firstRule (record { when = b; code = Owner.Nobody } ∷ rs) Owner.Nobody ≡ Owner.Nobody
-unfolding firstRule
-nobody-first true rs t = refl
-nobody-first false rs t = nobody-else rs t
+-- a further region, of which this was found
+module _ (p : PhysPage) (table : List MemRegion) (i : ℕ) (d r : MemRegion) (inside : i < length table) (is : r ≡ getD table i d) where
+  pub sees-more : (s : Sight) (here isShared isComm isLoadable : Bool) → Sees p (take i table) s
+      → here ≡ hasPhys p r → isShared ≡ shared r → isComm ≡ comm r → isLoadable ≡ loadable r
+      → Sees p (take (i + 1) table) (record {
+        any = s .any || here;
+        own = s .own || here && not isShared && not isComm;
+        shared = s .shared || here && isShared;
+        loadable = s .loadable || here && isLoadable;
+        touch = s .touch || here && not isComm;
+      })
+  sees-more s here isShared isComm isLoadable f h e c l = record {
+    at-all = any-turn _ table i d _ _ (f .at-all) (rw (h, is)) inside;
+    as-own = any-turn _ table i d _ _ (f .as-own) (rw (h, e, c, is)) inside;
+    as-shared = any-turn _ table i d _ _ (f .as-shared) (rw (h, e, is)) inside;
+    as-loadable = any-turn _ table i d _ _ (f .as-loadable) (rw (h, l, is)) inside;
+    as-touched = any-turn _ table i d _ _ (f .as-touched) (rw (h, c, is)) inside;
+  }
 
-either : (b : Bool) (x y : Mapping) → x ≡ Nothing → y ≡ Nothing → elim b as (λ t. Mapping) [ true ↦ x | false ↦ y ] ≡ Nothing
-either true x y e f = e
-either false x y e f = f
+-- ---- what a look at the cells from i up has found
 
-module _ (p : PhysPage) (past : 2 ^ 36 ≤ p .0) where
-  region-past : (claim : Claim) (r : MemRegion) → regionHas claim p r ≡ false
-  unfolding regionHas hasPhys
-  region-past Claim.Any r = sym (page-past (r .phys) (r .size) (p .0) past)
-  region-past Claim.Own r = rw (sym (page-past (r .phys) (r .size) (p .0) past))
-  region-past Claim.Shared r = rw (sym (page-past (r .phys) (r .size) (p .0) past))
-  region-past Claim.Loading r = rw (sym (page-past (r .phys) (r .size) (p .0) past))
+pub record FoundFrom (p : PhysPage) (i : ℕ) (m : Machine) (h : Holders) : Type 0 where
+  pub owner : h .owner ≡ firstFrom (owns p m) i
+  pub is-shared : h .shared ≡ anyFrom (shares p m) i
+  pub is-loading : h .loading ≡ anyFrom (loads p m) i
 
-  held-past : (claim : Claim) (used : ℕ) (cells : List Cell) → held claim used cells p ≡ false
-  unfolding held cellHas
-  held-past claim used cells =
-      any-false (liveHas claim used cells p) cellIds
-      (λ id. rw (any-false (regionHas claim p) (take (cellAt cells id .count) (cellAt cells id .regions)) (region-past claim), and-false, and-false))
+pub found-none : (p : PhysPage) (m : Machine) → FoundFrom p maxCells m (record { owner = maxCells; shared = false; loading = false })
+found-none p m = record { owner = Ids.first-start _; is-shared = Ids.any-start _; is-loading = Ids.any-start _ }
 
-  boot-past : (boot : SystemConfig) → bootHas boot p ≡ false
-  unfolding bootHas
-  boot-past boot = any-false (regionHas Claim.Any p) (bootRegions boot) (region-past Claim.Any)
+pub found-all : (p : PhysPage) (m : Machine) (h : Holders) (i : ℕ) → 1 ≤ i → i ≤ 1 → FoundFrom p i m h → Found p m h
+found-all p m h i low high f = record {
+  owner = f .owner ∙ Ids.first-all _ i low high;
+  is-shared = f .is-shared ∙ Ids.any-all _ i low high;
+  is-loading = f .is-loading ∙ Ids.any-all _ i low high;
+}
 
-  hypervisor-past : (boot : SystemConfig) → hypervisorHas boot p ≡ false
-  unfolding hypervisorHas
-  hypervisor-past boot = sym (page-past (boot .hypervisor .start) (boot .hypervisor .size) (p .0) past)
+pub found-owner : (p : PhysPage) (i : ℕ) (m : Machine) (a b : ℕ) (s l : Bool) → a ≡ b
+    → FoundFrom p i m (record { owner = b; shared = s; loading = l }) → FoundFrom p i m (record { owner = a; shared = s; loading = l })
+found-owner p i m a b s l e f = record { owner = e ∙ f .owner; is-shared = f .is-shared; is-loading = f .is-loading }
 
-  pub owner-past : (m : Machine) → ownerOf m p ≡ Owner.Nobody
-  unfolding ownerOf all
-  owner-past m =
-      rw (hypervisor-past (m .boot), held-past Claim.Own (m .used) (m .cells), held-past Claim.Shared (m .used) (m .cells), boot-past (m .boot))
-      (nobody-first (not (booted (m .power))) _ tt)
+-- a further cell, of which this was found
+module _ (p : PhysPage) (i ids : ℕ) (cells : List Cell) (low : 1 < i) (high : i ≤ maxCells) where
+  abbrev here : Cell
+  here = cellIn cells (i - 1)
 
-  pub touch-past : (m : Machine) → rootMayTouch m p ≡ false
-  unfolding rootMayTouch
-  touch-past m = rw (boot-past (m .boot), and-false)
+  pub found-more : (h : Holders) (s : Sight) (isLive inLoading : Bool) → isLive ≡ hasId ids (i - 1) → inLoading ≡ isLoading (here .phase)
+      → Sees p (take (here .«region_count») (here .regions)) s
+      → (m : Machine) → m .«live_ids» ≡ ids → m .cells ≡ cells → FoundFrom p i m h
+      → FoundFrom p (i - 1) m (record {
+        owner = choice (isLive && s .own) (i - 1) (h .owner);
+        shared = isLive && s .shared || h .shared;
+        loading = isLive && inLoading && s .loadable || h .loading;
+      })
+  unfolding owns shares loads
+  found-more h s isLive inLoading a b t m e f g =
+      let own : (isLive && s .own) ≡ owns p m (i - 1) = rw (a, t .as-own, e, f) in
+      let sharing : (isLive && s .shared) ≡ shares p m (i - 1) = rw (a, t .as-shared, e, f) in
+      let loading : (isLive && inLoading && s .loadable) ≡ loads p m (i - 1) = rw (a, b, t .as-loadable, e, f) in
+      record {
+        owner = first-turn _ i low high _ _ (g .owner) own;
+        is-shared = Ids.any-turn _ i low high _ _ (g .is-shared) sharing;
+        is-loading = Ids.any-turn _ i low high _ _ (g .is-loading) loading;
+      }
 
-module _ (p : CellPage) (past : 2 ^ 36 ≤ p .0) where
-  mapped-past : (r : MemRegion) → mapped r p ≡ Nothing
-  unfolding mapped hasVirt
-  mapped-past r = rw (sym (page-past (r .virt) (r .size) (p .0) past), mapped)
+-- ---- what a cell other than root may touch
 
-  root-past : (m : Machine) → rootMapping m p ≡ Nothing
-  unfolding rootMapping touchable
-  root-past m = ap (touchable m) (mapped-past (regionFor p (bootRegions (m .boot))))
+module _ (p : PhysPage) (m : Machine) (id : ℕ) (found : Bool) (e : found ≡ live m id) where
+  pub absent-touches : not found ≡ true → false ≡ cellMayTouch p m id
+  unfolding cellMayTouch
+  absent-touches n = rw (sym e ∙ not-true found n, and-false)
 
-  cell-past : (c : Cell) → cellMapping c p ≡ Nothing
-  unfolding cellMapping
-  cell-past c = mapped-past (regionFor p (take (c .count) (c .regions)))
+  pub live-touches : (booted : Bool) (s : Sight) → not found ≡ false → booted ≡ hasBooted (m .power) → Sees p (regionsAt m id) s
+      → (booted && s .touch) ≡ cellMayTouch p m id
+  unfolding cellMayTouch
+  live-touches booted s n b t = rw (b, t .as-touched, sym e ∙ not-false found n, and-true)
 
-  pub mapping-past : (m : Machine) (id : ℕ) → mappingOf m id p ≡ Nothing
-  unfolding mappingOf
-  mapping-past m id =
-      either (booted (m .power)) _ _
-      (either (eqb id 0) _ _ (root-past m) (either (live (m .used) id) _ _ (cell-past (cellAt (m .cells) id)) refl)) refl
+-- ---- the owner, by what was found
+
+pub owner-is : (p : PhysPage) (m : Machine) (h : Holders) (booted hypervisor boot : Bool) → Found p m h → booted ≡ hasBooted (m .power)
+    → hypervisor ≡ hypervisorHas p m → boot ≡ bootHas p m → ownerBy booted hypervisor (h .owner) (h .shared) boot ≡ ownerOf p m
+unfolding ownerBy ownerOf
+owner-is p m h booted hypervisor boot f b v t = rw (f .owner, f .is-shared, b, v, t, first-found (owns p m))
+
+pub root-touches : (p : PhysPage) (m : Machine) (h : Holders) (o : Owner) (booted boot isOpen : Bool) → Found p m h → booted ≡ hasBooted (m .power)
+    → boot ≡ bootHas p m → o ≡ ownerOf p m → isOpen ≡ openToRoot o → (booted && boot && (isOpen || h .loading)) ≡ rootMayTouch p m
+unfolding rootMayTouch
+root-touches p m h o booted boot isOpen f b t q e = rw (b, t, e, q, f .is-loading)

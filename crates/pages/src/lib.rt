@@ -1,55 +1,40 @@
-// The page questions: who owns a physical page, whether root may touch it, and what a cell's page
-// is mapped to.
+// The page questions: who owns a physical page, what a cell may touch, and what a cell's page is
+// mapped to.
 ghost use mathlib.Core.Path.{_≡_};
 ghost use lib.ListN.{take};
-ghost use Rattle.base.specs.Lists.{any};
-ghost use Rattle.pages.specs.Pages.{hasPage, hasPhys, hasVirt, booted as booted-of, regionHas, inPhase, cellHas, held as held-by, holder as holder-of};
-ghost use Rattle.pages.specs.Pages.{hypervisorHas, bootHas, ownerOf, openToRoot, rootMayTouch, regionFor, accessOf, mapped, cellMapping, touchable as touchable-of, rootMapping, mappingOf};
+ghost use Rattle.machine_state.specs.declared.Machine.{Machine};
+ghost use Rattle.rules.specs.Pages.{hasPage, hasPhys, hasVirt, hasBooted, hypervisorHas, bootHas, ownerOf, isLoading, openToRoot};
+ghost use Rattle.rules.specs.Pages.{rootMayTouch, cellMayTouch, mayTouch, regionFor, accessOf, mappedBy, cellMapping, ifTouchable, rootMapping, mappingOf};
+ghost use Rattle.pages.specs.Seen.{Sees, Found, ownerBy};
+use machine_state::Access;
 use machine_state::Cell;
+use machine_state::CellPage;
 use machine_state::MAX_CELLS;
 use machine_state::Machine;
+use machine_state::Mapping;
+use machine_state::Owner;
 use machine_state::Phase;
+use machine_state::PhysPage;
 use machine_state::Power;
 use region_table::MAX_REGIONS;
 use regions::MemRegion;
-use system_record::SystemConfig;
 
-// The number of a page of physical memory.
-pub struct PhysPage(pub u64);
-
-// The number of a page as a cell sees its memory.
-pub struct CellPage(pub u64);
-
-// What a cell may do with a page.
-pub struct Access {
-    pub read: bool,
-    pub write: bool,
-    pub execute: bool,
+// What the regions of a table are to a physical page: whether one has it, and one that is neither
+// shared nor comm, a shared one, a loadable one, one that is not comm.
+struct Sight {
+    any: bool,
+    own: bool,
+    shared: bool,
+    loadable: bool,
+    touch: bool,
 }
 
-// Who owns a physical page.
-pub enum Owner {
-    Hypervisor,
-    Cell(usize),
-    Shared,
-    Root,
-    Nobody,
-}
-
-// What a page of a cell is mapped to.
-pub enum Mapping {
-    Page(PhysPage, Access),
-    Comm,
-    Nothing,
-}
-
-// How a cell or root can have a page: in any region, in one of its own, in a shared one, or in one
-// that root may load.
-pub enum Claim {
-    Any,
-    Own,
-    Shared,
-    Loading,
+// Who has a physical page: the first live cell that owns it, or 16; whether a live cell shares it,
+// and whether it may be loaded for one.
+struct Holders {
+    owner: usize,
+    shared: bool,
+    loading: bool,
 }
 
 // Whether a range of bytes has page `n`; none has one from 2^36 up.
@@ -81,129 +66,143 @@ fn has_virt(r: MemRegion, page: CellPage) -> bool
 }
 
 // Whether the machine was booted; it stays so when it is disabled.
-fn booted(power: Power) -> bool
-    ensures { λ q. ⌜ q ≡ booted-of power ⌝ }
+fn has_booted(power: Power) -> bool
+    ensures { λ q. ⌜ q ≡ hasBooted power ⌝ }
 {
     match power {
-        Power::Off => false,
+        Power::Unbooted => false,
         Power::On => true,
         Power::Disabled => true,
     }
 }
 
-// Whether a region has a page in the way of `claim`.
-fn region_has(claim: Claim, r: MemRegion, page: PhysPage) -> bool
-    ensures { λ q. ⌜ q ≡ regionHas claim page r ⌝ }
+// Whether a cell is in loading.
+fn is_loading(phase: Phase) -> bool
+    ensures { λ q. ⌜ q ≡ isLoading phase ⌝ }
 {
-    let here = has_phys(r, page);
-    match claim {
-        Claim::Any => here,
-        Claim::Own => here & !regions::is_shared(r) & !regions::is_comm(r),
-        Claim::Shared => here & regions::is_shared(r),
-        Claim::Loading => here & regions::is_loadable(r),
+    match phase {
+        Phase::Suspended => false,
+        Phase::Loading => true,
+        Phase::Started => false,
     }
 }
 
-// Whether a cell in this phase has pages in the way of `claim`.
-fn in_phase(claim: Claim, phase: Phase) -> bool
-    ensures { λ q. ⌜ q ≡ inPhase claim phase ⌝ }
-{
-    match claim {
-        Claim::Any => true,
-        Claim::Own => true,
-        Claim::Shared => true,
-        Claim::Loading => match phase {
-            Phase::Suspended => false,
-            Phase::Loading => true,
-            Phase::Started => false,
-        },
-    }
-}
-
-// Whether one of the first `count` regions has a page in the way of `claim`.
-fn table_has(claim: Claim, table: [MemRegion; MAX_REGIONS], count: usize, page: PhysPage) -> bool
-    ensures { λ q. ⌜ q ≡ any (regionHas claim page) (take count table) ⌝ }
+// What the first `count` regions of a table are to a page.
+fn look_at(table: [MemRegion; MAX_REGIONS], count: usize, page: PhysPage) -> Sight
+    ensures { λ q. ⌜ Sees page (take count table) q ⌝ }
 {
     let n = region_table::used(count);
-    let mut found = false;
+    let mut any = false;
+    let mut own = false;
+    let mut shared = false;
+    let mut loadable = false;
+    let mut touch = false;
     let mut i = 0;
     while i < n {
-        found = found | region_has(claim, table[i], page);
+        let r = table[i];
+        let here = has_phys(r, page);
+        let is_shared = regions::is_shared(r);
+        let is_comm = regions::is_comm(r);
+        any = any | here;
+        own = own | here & !is_shared & !is_comm;
+        shared = shared | here & is_shared;
+        loadable = loadable | here & regions::is_loadable(r);
+        touch = touch | here & !is_comm;
         i += 1;
     }
-    found
-}
-
-// Whether a cell has a page in the way of `claim`.
-fn cell_has(claim: Claim, c: Cell, page: PhysPage) -> bool
-    ensures { λ q. ⌜ q ≡ cellHas claim page c ⌝ }
-{
-    let phase = c.phase;
-    let regions = c.regions;
-    in_phase(claim, phase) & table_has(claim, regions, c.count, page)
-}
-
-// The first live cell that has a page in the way of `claim`, or 16.
-fn holder(claim: Claim, used: u16, cells: [Cell; MAX_CELLS], page: PhysPage) -> usize
-    ensures { λ q. ⌜ q ≡ holder-of claim used cells page ⌝ }
-{
-    let mut i = 1;
-    while i < MAX_CELLS {
-        if comms::is_live(used, i as u64) & cell_has(claim, cells[i], page) {
-            return i;
-        }
-        i += 1;
+    Sight {
+        any,
+        own,
+        shared,
+        loadable,
+        touch,
     }
-    i
 }
 
-// Whether a live cell has a page in the way of `claim`.
-fn held(claim: Claim, used: u16, cells: [Cell; MAX_CELLS], page: PhysPage) -> bool
-    ensures { λ q. ⌜ q ≡ held-by claim used cells page ⌝ }
+// The live cells that have a page.
+fn look_at_cells(live_ids: u16, cells: [Cell; MAX_CELLS], page: PhysPage) -> Holders
+    ensures { λ q. ⌜ ((m : Machine) → m .«live_ids» ≡ «live_ids» → m .cells ≡ cells → Found page m q) ⌝ }
 {
-    holder(claim, used, cells, page) < MAX_CELLS
+    let mut owner = MAX_CELLS;
+    let mut shared = false;
+    let mut loading = false;
+    let mut i = MAX_CELLS;
+    while 1 < i {
+        i -= 1;
+        let c = cells[i];
+        let regions = c.regions;
+        let phase = c.phase;
+        let seen = look_at(regions, c.region_count, page);
+        let live = comms::is_live(live_ids, i as u64);
+        owner = comms::choose(live & seen.own, i, owner);
+        shared = live & seen.shared | shared;
+        loading = live & is_loading(phase) & seen.loadable | loading;
+    }
+    Holders {
+        owner,
+        shared,
+        loading,
+    }
 }
 
 // Whether hypervisor memory has a page.
-fn hypervisor_has(boot: SystemConfig, page: PhysPage) -> bool
-    ensures { λ q. ⌜ q ≡ hypervisorHas boot page ⌝ }
+fn hypervisor_has(m: Machine, page: PhysPage) -> bool
+    ensures { λ q. ⌜ q ≡ hypervisorHas page m ⌝ }
 {
-    let memory = boot.hypervisor;
+    let system = m.system;
+    let memory = system.hypervisor;
     has_page(memory.start, memory.size, page.0)
 }
 
 // Whether a boot region has a page.
-fn boot_has(boot: SystemConfig, page: PhysPage) -> bool
-    ensures { λ q. ⌜ q ≡ bootHas boot page ⌝ }
+fn boot_has(m: Machine, page: PhysPage) -> bool
+    ensures { λ q. ⌜ q ≡ bootHas page m ⌝ }
 {
-    let regions = boot.regions;
-    table_has(Claim::Any, regions, boot.count, page)
+    let system = m.system;
+    let regions = system.regions;
+    let seen = look_at(regions, system.region_count, page);
+    seen.any
+}
+
+// The owner, by what is found of a page: whether the machine was booted, hypervisor memory has it,
+// the cell that owns it, or 16, whether a cell shares it and a boot region has it.
+fn first_owner(booted: bool, hypervisor: bool, owner: usize, shared: bool, boot: bool) -> Owner
+    ensures { λ q. ⌜ q ≡ ownerBy booted hypervisor owner shared boot ⌝ }
+{
+    if !booted {
+        return Owner::Nobody;
+    }
+    if hypervisor {
+        return Owner::Hypervisor;
+    }
+    if owner < MAX_CELLS {
+        return Owner::Cell(owner);
+    }
+    if shared {
+        return Owner::Shared;
+    }
+    if boot {
+        return Owner::Root;
+    }
+    Owner::Nobody
 }
 
 // Who owns a physical page.
 pub fn owner_of(m: Machine, page: PhysPage) -> Owner
-    ensures { λ q. ⌜ q ≡ ownerOf m page ⌝ }
+    ensures { λ q. ⌜ q ≡ ownerOf page m ⌝ }
 {
     let power = m.power;
-    let boot = m.boot;
     let cells = m.cells;
-    if !booted(power) {
-        return Owner::Nobody;
-    }
-    if hypervisor_has(boot, page) {
-        return Owner::Hypervisor;
-    }
-    let id = holder(Claim::Own, m.used, cells, page);
-    if id < MAX_CELLS {
-        return Owner::Cell(id);
-    }
-    if held(Claim::Shared, m.used, cells, page) {
-        return Owner::Shared;
-    }
-    if boot_has(boot, page) {
-        return Owner::Root;
-    }
-    Owner::Nobody
+    let found = look_at_cells(m.live_ids, cells, page);
+    let booted = has_booted(power);
+    let hypervisor = hypervisor_has(m, page);
+    first_owner(
+        booted,
+        hypervisor,
+        found.owner,
+        found.shared,
+        boot_has(m, page),
+    )
 }
 
 // Whether root may touch the boot pages of this owner, whatever is loaded.
@@ -221,14 +220,38 @@ fn open_to_root(owner: Owner) -> bool
 
 // Whether root may touch a physical page.
 pub fn root_may_touch(m: Machine, page: PhysPage) -> bool
-    ensures { λ q. ⌜ q ≡ rootMayTouch m page ⌝ }
+    ensures { λ q. ⌜ q ≡ rootMayTouch page m ⌝ }
 {
     let power = m.power;
-    let boot = m.boot;
     let cells = m.cells;
-    booted(power)
-        & boot_has(boot, page)
-        & (open_to_root(owner_of(m, page)) | held(Claim::Loading, m.used, cells, page))
+    let found = look_at_cells(m.live_ids, cells, page);
+    has_booted(power) & boot_has(m, page) & (open_to_root(owner_of(m, page)) | found.loading)
+}
+
+// Whether a cell other than root may touch a physical page.
+fn cell_may_touch(m: Machine, id: u64, page: PhysPage) -> bool
+    ensures { λ q. ⌜ q ≡ cellMayTouch page m id ⌝ }
+{
+    let power = m.power;
+    if !comms::is_live(m.live_ids, id) {
+        return false;
+    }
+    let i = id as usize;
+    let c = m.cells[i];
+    let regions = c.regions;
+    let seen = look_at(regions, c.region_count, page);
+    has_booted(power) & seen.touch
+}
+
+// Whether a cell may touch a physical page.
+pub fn may_touch(m: Machine, id: u64, page: PhysPage) -> bool
+    ensures { λ q. ⌜ q ≡ mayTouch id page m ⌝ }
+{
+    if id == 0 {
+        root_may_touch(m, page)
+    } else {
+        cell_may_touch(m, id, page)
+    }
 }
 
 // The first of the `count` regions that has a cell page, or a region of no size.
@@ -260,10 +283,10 @@ fn access_of(r: MemRegion) -> Access
 
 // What a region makes of a cell page.
 fn translate(r: MemRegion, page: CellPage) -> Mapping
-    ensures { λ q. ⌜ q ≡ mapped r page ⌝ }
+    ensures { λ q. ⌜ q ≡ mappedBy r page ⌝ }
 {
     if !has_virt(r, page) {
-        return Mapping::Nothing;
+        return Mapping::Unmapped;
     }
     if regions::is_comm(r) {
         return Mapping::Comm;
@@ -274,54 +297,55 @@ fn translate(r: MemRegion, page: CellPage) -> Mapping
     )
 }
 
-// What a cell page is mapped to for a cell that is not root.
-fn cell_mapping(c: Cell, page: CellPage) -> Mapping
-    ensures { λ q. ⌜ q ≡ cellMapping c page ⌝ }
+// What a cell page is mapped to by the first of the `count` regions that has it.
+fn table_mapping(table: [MemRegion; MAX_REGIONS], count: usize, page: CellPage) -> Mapping
+    ensures { λ q. ⌜ q ≡ cellMapping (take count table) page ⌝ }
 {
-    let regions = c.regions;
-    translate(region_for(regions, c.count, page), page)
+    translate(region_for(table, count, page), page)
 }
 
 // The same mapping, or nothing where root may not touch its page.
-fn touchable(m: Machine, mapping: Mapping) -> Mapping
-    ensures { λ q. ⌜ q ≡ touchable-of m mapping ⌝ }
+fn if_touchable(m: Machine, mapping: Mapping) -> Mapping
+    ensures { λ q. ⌜ q ≡ ifTouchable m mapping ⌝ }
 {
     match mapping {
         Mapping::Page(page, access) => {
             if root_may_touch(m, page) {
                 Mapping::Page(page, access)
             } else {
-                Mapping::Nothing
+                Mapping::Unmapped
             }
         }
-        Mapping::Comm => Mapping::Nothing,
-        Mapping::Nothing => Mapping::Nothing,
+        Mapping::Comm => Mapping::Unmapped,
+        Mapping::Unmapped => Mapping::Unmapped,
     }
 }
 
 // What a cell page is mapped to for root.
 fn root_mapping(m: Machine, page: CellPage) -> Mapping
-    ensures { λ q. ⌜ q ≡ rootMapping m page ⌝ }
+    ensures { λ q. ⌜ q ≡ rootMapping page m ⌝ }
 {
-    let boot = m.boot;
-    let regions = boot.regions;
-    touchable(m, translate(region_for(regions, boot.count, page), page))
+    let system = m.system;
+    let regions = system.regions;
+    if_touchable(m, table_mapping(regions, system.region_count, page))
 }
 
 // What a cell page is mapped to for a cell; nothing where there is no such cell.
 pub fn mapping_of(m: Machine, id: u64, page: CellPage) -> Mapping
-    ensures { λ q. ⌜ q ≡ mappingOf m id page ⌝ }
+    ensures { λ q. ⌜ q ≡ mappingOf id page m ⌝ }
 {
     let power = m.power;
-    if !booted(power) {
-        return Mapping::Nothing;
+    if !has_booted(power) {
+        return Mapping::Unmapped;
     }
     if id == 0 {
         return root_mapping(m, page);
     }
-    if comms::is_live(m.used, id) {
-        let i = id as usize;
-        return cell_mapping(m.cells[i], page);
+    if !comms::is_live(m.live_ids, id) {
+        return Mapping::Unmapped;
     }
-    Mapping::Nothing
+    let i = id as usize;
+    let c = m.cells[i];
+    let regions = c.regions;
+    table_mapping(regions, c.region_count, page)
 }

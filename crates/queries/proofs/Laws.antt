@@ -1,18 +1,98 @@
--- A signed result that is handed on goes through its bits, and the number of those bits is the result again. Assumes nothing.
-use mathlib.Core.Path.{_≡_}
+-- A table of codes, row by row, and the caller's own CPU in the table where its call is counted. Assumes nothing.
+use mathlib.Core.Path.{_≡_, refl, sym, ap, ap₂, subst, _∙_}
+use mathlib.Core.Bool.{Bool, true, false, not, _&&_}
+use mathlib.Core.List.{List, [], _∷_}
+use Prim.Native.Nat.{ℕ, _<_, _≤_}
+use native.Mathlib.Omega.{arith}
 use lib.IntN.{ℤ}
-use mir.Syntax.{w32}
-use mir.Val.{toZ, ofZ}
-use mir.Facts.{toZ-ofZ}
-use lib.Signed.{mag}
-use Prim.Native.Nat.{ℕ, _<_, _≤_, _^_}
-use mathlib.Core.Bool.{true, _&&_}
-use lib.Dec.{leb, leb→le}
+use lib.ListN.{length, set, getD}
+use lib.Seq.{getD-set-same, getD-set-other}
+use borrow.Author.Tests.{not-false, eqb-true, eqb-false}
+use lib.Dec.{leb, leb→le, eqb}
+use Rattle.base.specs.Rules.{Refusal, firstRule, _⇒_}
+use Rattle.base.proofs.Rules.{rule-holds, rule-passed, no-rule}
 use Rattle.base.proofs.Tests.{holds, and-left, and-right}
+use Rattle.cpu_set.specs.CpuSet.{member}
+use Rattle.cpu_set.proofs.Laws.{member-lt}
+use Rattle.machine_state.specs.declared.Cpu.{Cpu}
+use Rattle.machine_state.specs.declared.CommRegion.{CommRegion}
+use Rattle.machine_state.specs.declared.Machine.{Machine}
+use Rattle.machine_state.specs.Machine.{cpuIn, commIn, pastCpu, maxCpus}
+use Rattle.rules.specs.State.{rootId, bootCpus, cpuAt, stateAt, hasId, live, withCpus}
+use Rattle.rules.specs.Queries.{low31}
+use Rattle.rules.specs.Effects.{counted, callCounter}
+use Rattle.cpu_table.specs.CpuTable.{changeOf}
+use Rattle.cpu_table.specs.declared.CpuChange.the-variants.{Count}
+use Rattle.queries.specs.Asked.{askedOf}
+use Rattle.machine_state.specs.declared.Answer.{Answer}
+use Rattle.machine_state.specs.declared.Answer.the-variants.{Code}
 
-pub back : {z : ℤ} → mag z < 2 ^ 31 → toZ w32 (ofZ w32 z) ≡ z
-back h = toZ-ofZ (record { sfits = h })
+module _ (r : Answer) where
+  pub answers : (when : Bool) (code : ℤ) (rows : List (Refusal ℤ)) (otherwise : ℤ) → when ≡ true → r ≡ Code code → r ≡ Code (firstRule ((when ⇒ code) ∷ rows) otherwise)
+  answers when code rows otherwise t e = e ∙ ap Code (rule-holds (when ⇒ code) rows otherwise t)
+
+  pub passes : (row : Refusal ℤ) (rows : List (Refusal ℤ)) (otherwise : ℤ) → row .when ≡ false → r ≡ Code (firstRule rows otherwise) → r ≡ Code (firstRule (row ∷ rows) otherwise)
+  passes row rows otherwise t e = e ∙ ap Code (rule-passed row rows otherwise t)
+
+  pub none-left : (otherwise : ℤ) → r ≡ Code otherwise → r ≡ Code (firstRule [] otherwise)
+  none-left otherwise e = e ∙ ap Code (no-rule otherwise)
 
 pub between : (a n b : ℕ) → (leb a n && leb n b) ≡ true → (a ≤ n) × (n ≤ b)
 between a n b e =
     (leb→le a n (and-left (leb a n) (leb n b) (holds e)), leb→le n b (and-right (leb a n) (leb n b) (holds e)))
+
+pub not-both : (n : ℕ) → n < maxCpus → maxCpus ≤ n → ⊥
+not-both n h b = omega arith
+
+-- cell `id` of the machine is as the code found it in the tables
+module _ (m : Machine) (id : ℕ) where
+  pub live-row : (ids : ℕ) (found b : Bool) → m .«live_ids» ≡ ids → found ≡ hasId ids id → not found ≡ b → not (live m id) ≡ b
+  live-row ids found b e f t = ap (λ (n : ℕ). not (hasId n id)) e ∙ ap not (sym f) ∙ t
+
+  pub state-is : (comms : List CommRegion) (c : CommRegion) → m .comms ≡ comms → c ≡ commIn comms id → stateAt m id ≡ c .«cell_state»
+  state-is comms c e f = ap (λ (l : List CommRegion). commIn l id .«cell_state») e ∙ ap (λ (w : CommRegion). w .«cell_state») (sym f)
+
+-- the row of a CPU of another cell, where the two CPUs are given
+pub foreign-row : (p q caller asked : Cpu) → p ≡ caller → q ≡ asked
+    → (not (eqb (p .cell) rootId) && not (eqb (q .cell) (p .cell))) ≡ (not (eqb (caller .cell) rootId) && not (eqb (asked .cell) (caller .cell)))
+foreign-row p q caller asked = ap₂ (λ (x y : Cpu). not (eqb (x .cell) rootId) && not (eqb (y .cell) (x .cell)))
+
+pub works-row : (type : ℕ) (q asked : Cpu) → q ≡ asked → (eqb type 0 && not (q .failed)) ≡ (eqb type 0 && not (asked .failed))
+works-row type q asked = ap (λ (y : Cpu). eqb type 0 && not (y .failed))
+
+pub counter-of : (i : ℕ) (asked q : Cpu) → asked ≡ q → Code (low31 (getD (asked .counters) i 0)) ≡ Code (low31 (getD (q .counters) i 0))
+counter-of i asked q = ap (λ (y : Cpu). Code (low31 (getD (y .counters) i 0)))
+
+-- a CPU of the boot set is a place of the table
+module _ (cpu boot : ℕ) (found : Bool) (e : found ≡ member cpu boot) where
+  pub unlisted-row : (v : Bool) → not found ≡ v → (m : Machine) → bootCpus m ≡ boot → not (member cpu (bootCpus m)) ≡ v
+  unlisted-row v n m b = ap (λ (set : ℕ). not (member cpu set)) b ∙ ap not (sym e) ∙ n
+
+  pub in-table : not found ≡ false → cpu < maxCpus
+  in-table n = member-lt cpu boot (holds (sym e ∙ not-false found n))
+
+  pub listed : not found ≡ false → (m : Machine) → bootCpus m ≡ boot → member cpu (bootCpus m) ≡ true
+  listed n m b = ap (member cpu) b ∙ sym e ∙ not-false found n
+
+-- the CPUs of the machine in which the caller is counted
+module _ (m : Machine) (caller : ℕ) (cpus : List Cpu) (e : m .cpus ≡ cpus) (size : length cpus ≡ maxCpus) (h : caller < maxCpus) where
+  abbrev own : Cpu
+  own = changeOf (Count callCounter) (cpuIn cpus caller)
+
+  counted-at : (j : ℕ) → cpuAt (counted callCounter caller m) j ≡ cpuIn (set cpus caller own) j
+  unfolding counted withCpus changeOf
+  counted-at j = rw e refl
+
+  pub caller-counted : cpuAt (counted callCounter caller m) caller ≡ own
+  caller-counted = counted-at caller ∙ getD-set-same cpus caller own pastCpu (subst (λ (n : ℕ). caller < n) (sym size) h)
+
+  at-asked : (j : ℕ) → cpuAt (counted callCounter caller m) j ≡ askedOf cpus caller own j
+  unfolding askedOf
+  at-asked j = go (eqb j caller) refl
+    where
+      go : (b : Bool) → eqb j caller ≡ b → cpuAt (counted callCounter caller m) j ≡ askedOf cpus caller own j
+      go true q = rw (q, askedOf) (ap (cpuAt (counted callCounter caller m)) (eqb-true j caller q) ∙ caller-counted)
+      go false q = rw (q, askedOf) (counted-at j ∙ getD-set-other cpus caller j own pastCpu (eqb-false j caller q))
+
+  pub asked-counted : (j : ℕ) (p r : Cpu) → p ≡ own → r ≡ askedOf cpus caller p j → cpuAt (counted callCounter caller m) j ≡ r
+  asked-counted j p r e f = at-asked j ∙ ap (λ (x : Cpu). askedOf cpus caller x j) (sym e) ∙ sym f

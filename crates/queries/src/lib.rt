@@ -1,29 +1,47 @@
-// The three queries: Get Info, Get State, CPU Get Info.
+// The three queries: Get Info, Get State, CPU Get Info. Each looks at the parts of the machine that
+// its row names; its answer is right of every machine with these parts.
 ghost use mathlib.Core.Path.{_≡_};
-ghost use Prim.Native.Nat.{_-_, _≤_};
+ghost use mathlib.Core.Bool.{true};
+ghost use Prim.Native.Nat.{ℕ, _-_, _≤_, _<_};
 ghost use lib.ListN.{getD};
-ghost use Rattle.queries.specs.Queries.{low31 as low31-of, getInfo, getState, cpuState, cpuInfo};
+ghost use Rattle.cpu_set.specs.CpuSet.{member};
+ghost use Rattle.machine_state.specs.declared.Machine.{Machine};
+ghost use Rattle.machine_state.specs.Machine.{cpuIn, maxCpus};
+ghost use Rattle.rules.specs.State.{bootCpus, cpuAt};
+ghost use Rattle.rules.specs.Queries.{low31 as low31-of, getInfo, getState, cpuGetInfo};
+ghost use Rattle.rules.specs.Effects.{counted, callCounter, countExit};
+ghost use Rattle.queries.specs.Asked.{askedOf};
 use base::EINVAL;
 use base::EPERM;
+use cpu_table::CALL_COUNTER;
+use cpu_table::CpuChange;
+use machine_state::Answer;
+use machine_state::CommRegion;
 use machine_state::Cpu;
+use machine_state::FAILED;
+use machine_state::MAX_CELLS;
+use machine_state::MAX_CPUS;
+use machine_state::RUNNING;
+use machine_state::RUNNING_LOCKED;
+use machine_state::SHUT_DOWN;
 use system_record::Pool;
 
 // The low 31 bits of a number, as a return code.
-fn low31(n: u32) -> i32
-    ensures { λ r. ⌜ r ≡ low31-of n ⌝ }
+fn low31(n: u32) -> Answer
+    ensures { λ r. ⌜ r ≡ Answer.Code (low31-of n) ⌝ }
 {
-    (n % 0x8000_0000) as i32
+    Answer::Code((n % 0x8000_0000) as i32)
 }
 
 // Get Info: a figure of the pools, or the number of cells.
-pub fn get_info(pool: Pool, in_use: u32, remap: Pool, used: u16, kind: u64) -> i32
-    ensures { λ r. ⌜ r ≡ getInfo pool «in_use» remap used kind ⌝ }
+pub fn get_info(pool: Pool, remap: Pool, pool_used: u32, live_ids: u16, kind: u64) -> Answer
+    ensures { λ r. ⌜ ((m : Machine) → m .system .pool ≡ pool → m .system .remap ≡ remap → m .«pool_used» ≡ «pool_used» → m .«live_ids» ≡ «live_ids» → r ≡ Answer.Code (getInfo kind m)) ⌝ }
 {
     if kind == 0 {
         return low31(pool.pages);
     }
     if kind == 1 {
-        return low31(in_use);
+        return low31(pool_used);
     }
     if kind == 2 {
         return low31(remap.pages);
@@ -32,65 +50,91 @@ pub fn get_info(pool: Pool, in_use: u32, remap: Pool, used: u16, kind: u64) -> i
         return low31(remap.used);
     }
     if kind == 4 {
-        return low31(cpu_set::count(used as u64));
+        return low31(cpu_set::count(live_ids as u64));
     }
-    EINVAL
+    Answer::Code(EINVAL)
 }
 
-// Get State of cell `id`, whose state word is `state`.
-pub fn get_state(used: u16, state: u32, id: u64) -> i32
-    ensures { λ r. ⌜ r ≡ getState used state id ⌝ }
+// Get State of cell `id`.
+pub fn get_state(live_ids: u16, comms: [CommRegion; MAX_CELLS], id: u64) -> Answer
+    ensures { λ r. ⌜ ((m : Machine) → m .«live_ids» ≡ «live_ids» → m .comms ≡ comms → r ≡ Answer.Code (getState id m)) ⌝ }
 {
+    let c = comms::words_at(comms, id as usize);
+    let state = c.cell_state;
     if id == 0 {
-        return 0;
+        return Answer::Code(0);
     }
-    if !comms::is_live(used, id) {
-        return EINVAL;
+    if !comms::is_live(live_ids, id) {
+        return Answer::Code(EINVAL);
     }
-    if state <= 1 {
-        return 0;
+    if (state == RUNNING) | (state == RUNNING_LOCKED) {
+        return Answer::Code(0);
     }
-    if state == 2 {
-        return 1;
+    if state == SHUT_DOWN {
+        return Answer::Code(1);
     }
-    if state == 3 {
-        return 2;
+    if state == FAILED {
+        return Answer::Code(2);
     }
-    EINVAL
-}
-
-// A CPU's state: 0, or 2 where it failed.
-fn cpu_state(p: Cpu) -> i32
-    ensures { λ r. ⌜ r ≡ cpuState p ⌝ }
-{
-    if p.failed { 2 } else { 0 }
-}
-
-// CPU Get Info of CPU `cpu`, which is `p`, for a caller in cell `caller`.
-pub fn cpu_get_info(boot: u64, caller: usize, p: Cpu, cpu: u64, kind: u64) -> i32
-    ensures { λ r. ⌜ r ≡ cpuInfo boot caller p cpu kind ⌝ }
-{
-    if !cpu_set::contains(boot, cpu) {
-        return EINVAL;
-    }
-    if !(caller == 0) & !(p.cell == caller) {
-        return EPERM;
-    }
-    if kind == 0 {
-        return cpu_state(p);
-    }
-    if (1000 <= kind) & (kind <= 1005) {
-        return counter(p, kind);
-    }
-    EINVAL
+    Answer::Code(EINVAL)
 }
 
 // The counter of an information type from 1000 to 1005.
-fn counter(p: Cpu, kind: u64) -> i32
+fn counter(p: Cpu, kind: u64) -> Answer
     requires { ⌜ (1000 ≤ kind) × (kind ≤ 1005) ⌝ }
-    ensures { λ r. ⌜ r ≡ low31-of (getD (p .counters) (kind - 1000) 0) ⌝ }
+    ensures { λ r. ⌜ r ≡ Answer.Code (low31-of (getD (p .counters) (kind - 1000) 0)) ⌝ }
 {
     let counters = p.counters;
     let i = (kind - 1000) as usize;
     low31(counters[i])
+}
+
+// CPU Get Info of CPU `asked`, of the boot set, for the CPU `caller`.
+fn cpu_figure(caller: Cpu, asked: Cpu, kind: u64) -> Answer
+    ensures { λ r. ⌜ ((m : Machine) (k j : ℕ) → cpuAt m k ≡ caller → cpuAt m j ≡ asked → member j (bootCpus m) ≡ true → r ≡ Answer.Code (cpuGetInfo k j kind m)) ⌝ }
+{
+    if !(caller.cell == 0) & !(asked.cell == caller.cell) {
+        return Answer::Code(EPERM);
+    }
+    if (kind == 0) & !asked.failed {
+        return Answer::Code(0);
+    }
+    if kind == 0 {
+        return Answer::Code(2);
+    }
+    if (1000 <= kind) & (kind <= 1005) {
+        return counter(asked, kind);
+    }
+    Answer::Code(EINVAL)
+}
+
+// The CPU asked about, which may be the caller's own, `p`, already counted.
+fn asked_cpu(cpus: [Cpu; MAX_CPUS], caller: usize, p: Cpu, asked: usize) -> Cpu
+    requires { ⌜ asked < maxCpus ⌝ }
+    ensures { λ r. ⌜ r ≡ askedOf cpus caller p asked ⌝ }
+{
+    if asked == caller {
+        return p;
+    }
+    cpus[asked]
+}
+
+// CPU Get Info of CPU `asked`, for a caller whose call is counted but not yet in the table.
+pub fn cpu_get_info(
+    boot_cpus: u64,
+    cpus: [Cpu; MAX_CPUS],
+    caller: usize,
+    asked: u64,
+    kind: u64,
+) -> Answer
+    ensures { λ r. ⌜ ((m : Machine) → caller < maxCpus → bootCpus m ≡ «boot_cpus» → m .cpus ≡ cpus → r ≡ Answer.Code (cpuGetInfo caller asked kind (counted callCounter caller m))) ⌝ }
+{
+    if !cpu_set::contains(boot_cpus, asked) {
+        return Answer::Code(EINVAL);
+    }
+    if caller >= MAX_CPUS {
+        return Answer::Code(EINVAL);
+    }
+    let own = cpu_table::change_cpu(cpus[caller], CpuChange::Count(CALL_COUNTER));
+    cpu_figure(own, asked_cpu(cpus, caller, own, asked as usize), kind)
 }

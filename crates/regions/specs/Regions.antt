@@ -26,21 +26,40 @@ wholePages start size = aligned start && aligned size && leb 4096 size && leb (s
 unfoldable pub placed : MemRegion → Bool
 placed r = wholePages (r .phys) (r .size) && wholePages (r .virt) (r .size)
 
--- "read 1, write 2, execute 4, comm 8, loadable 16, shared 32": the flag of value v is set
+-- "read 1, write 2, execute 4, comm 8, loadable 16, shared 32"
+abbrev pub readFlag : ℕ
+readFlag = 1
+
+abbrev pub writeFlag : ℕ
+writeFlag = 2
+
+abbrev pub executeFlag : ℕ
+executeFlag = 4
+
+abbrev pub commFlag : ℕ
+commFlag = 8
+
+abbrev pub loadableFlag : ℕ
+loadableFlag = 16
+
+abbrev pub sharedFlag : ℕ
+sharedFlag = 32
+
+-- the flag of value v is set
 abbrev pub flag : ℕ → MemRegion → Bool
 flag v r = eqb (r .flags / v % 2) 1
 
 abbrev pub readable : MemRegion → Bool
-readable r = flag 1 r
+readable r = flag readFlag r
 
 abbrev pub comm : MemRegion → Bool
-comm r = flag 8 r
+comm r = flag commFlag r
 
 abbrev pub loadable : MemRegion → Bool
-loadable r = flag 16 r
+loadable r = flag loadableFlag r
 
 abbrev pub shared : MemRegion → Bool
-shared r = flag 32 r
+shared r = flag sharedFlag r
 
 -- "no other bit; read is always set, loadable and shared never together"
 unfoldable pub flagsOk : MemRegion → Bool
@@ -50,7 +69,7 @@ flagsOk r = ltb (r .flags) 64 && readable r && not (loadable r && shared r)
 unfoldable pub commOk : MemRegion → Bool
 commOk r = not (comm r) || eqb (r .flags) 11 && eqb (r .phys) 0 && eqb (r .size) 4096
 
--- two ranges overlap: the later start lies before the earlier end
+-- two ranges overlap: some byte is in both, so that the later start lies before the earlier end
 unfoldable pub overlap : ℕ → ℕ → ℕ → ℕ → Bool
 overlap a n b m = ltb (max a b) (min (a + n) (b + m))
 

@@ -5,6 +5,23 @@ ghost use lib.Dec.{leb};
 ghost use Rattle.regions.specs.Regions.{regionOf, wholePages, placed, comm, loadable, shared, flagsOk, commOk};
 ghost use Rattle.regions.specs.Regions.{overlap as overlap-of, inside as inside-of, apart as apart-of, clearOf, insidePhys};
 
+// The flags of a region, by their values, and those of a communication region, read, write and comm.
+pub const MEM_READ: u64 = 1;
+
+pub const MEM_WRITE: u64 = 2;
+
+pub const MEM_EXECUTE: u64 = 4;
+
+pub const MEM_COMM_REGION: u64 = 8;
+
+pub const MEM_LOADABLE: u64 = 16;
+
+pub const MEM_SHARED: u64 = 32;
+
+pub const COMM_REGION_FLAGS: u64 = 11;
+
+pub const PAGE_SIZE: u64 = 4096;
+
 // A memory region of the root cell or of a cell: `size` bytes of physical memory from `phys`, seen
 // by the cell from `virt` on.
 pub struct MemRegion {
@@ -45,7 +62,10 @@ fn ends_by_limit(start: u64, size: u64) -> bool
 pub fn whole_pages(start: u64, size: u64) -> bool
     ensures { λ r. ⌜ r ≡ wholePages start size ⌝ }
 {
-    (start % 4096 == 0) & (size % 4096 == 0) & (4096 <= size) & ends_by_limit(start, size)
+    (start % PAGE_SIZE == 0)
+        & (size % PAGE_SIZE == 0)
+        & (PAGE_SIZE <= size)
+        & ends_by_limit(start, size)
 }
 
 // Whether both sides of a region are whole pages, at least one, and end by 2^48.
@@ -59,35 +79,35 @@ pub fn is_placed(r: MemRegion) -> bool
 pub fn is_comm(r: MemRegion) -> bool
     ensures { λ q. ⌜ q ≡ comm r ⌝ }
 {
-    r.flags / 8 % 2 == 1
+    r.flags / MEM_COMM_REGION % 2 == 1
 }
 
 // Whether the root cell may load it while its cell is in loading.
 pub fn is_loadable(r: MemRegion) -> bool
     ensures { λ q. ⌜ q ≡ loadable r ⌝ }
 {
-    r.flags / 16 % 2 == 1
+    r.flags / MEM_LOADABLE % 2 == 1
 }
 
 // Whether several cells may have it.
 pub fn is_shared(r: MemRegion) -> bool
     ensures { λ q. ⌜ q ≡ shared r ⌝ }
 {
-    r.flags / 32 % 2 == 1
+    r.flags / MEM_SHARED % 2 == 1
 }
 
 // Whether the flags are allowed together.
 pub fn flags_ok(r: MemRegion) -> bool
     ensures { λ q. ⌜ q ≡ flagsOk r ⌝ }
 {
-    (r.flags < 64) & (r.flags / 1 % 2 == 1) & !(is_loadable(r) & is_shared(r))
+    (r.flags < 64) & (r.flags / MEM_READ % 2 == 1) & !(is_loadable(r) & is_shared(r))
 }
 
 // Whether a communication region has the only form allowed.
 pub fn comm_ok(r: MemRegion) -> bool
     ensures { λ q. ⌜ q ≡ commOk r ⌝ }
 {
-    !is_comm(r) | (r.flags == 11) & (r.phys == 0) & (r.size == 4096)
+    !is_comm(r) | (r.flags == COMM_REGION_FLAGS) & (r.phys == 0) & (r.size == PAGE_SIZE)
 }
 
 // Whether two ranges have a common byte. No sum can wrap.

@@ -13,7 +13,6 @@ use lib.ListN.{length, take, drop, drop-of-length-le, length-take, length-drop, 
 use lib.Seq.{take-all, take-length, take-append-add, length-take-le, take-at, drop-at, drop-append-add, drop-drop}
 use borrow.Author.Tests.{le-ltb, ltb-true, leb-true}
 use Rattle.base.proofs.Tests.{le-or-lt, holds, is-true, and-left, and-right}
-use Rattle.fast_path.proofs.Laws.{after}
 use Rattle.lines.specs.Lines.{lineRecord}
 use Rattle.lines.proofs.Laws.{record-short}
 use Rattle.machine_state.specs.declared.Answer.{Answer}

@@ -17,7 +17,8 @@ use Rattle.machine_state.specs.declared.Event.{Event}
 use Rattle.machine_state.specs.declared.Machine.{Machine}
 use Rattle.machine_state.specs.declared.Stepped.{Stepped}
 use Rattle.machine_state.specs.Machine.{bootOf}
-use Rattle.machine.specs.Step.{stay, step}
+use Rattle.rules.specs.State.{answered}
+use Rattle.rules.specs.Step.{step}
 use Rattle.lines.specs.Lines.{lineEvent, lineRecord}
 use Rattle.lines.proofs.Laws.{event-cut, record-cut}
 use Rattle.machine_state.specs.declared.Answer.{Answer}
@@ -211,9 +212,9 @@ module _ (log : List ℕ) (at end : ℕ) (start : Going) (m : Machine) (begun te
 
   -- the line ends, and its answer is written
   pub goes-on-ended : end < length log → (answer : Answer) (next : Machine) (text′ : List ℕ)
-      → stay answer next ≡ step (lineEvent line) (lineRecord line) m → text′ ≡ text ++ answerLine answer
+      → answered answer next ≡ step (lineEvent line) (lineRecord line) m → text′ ≡ text ++ answerLine answer
       → feed (take (end + 1) log) start ≡ going next [] text′
-  unfolding longer ended stepLine stay
+  unfolding longer ended stepLine answered
   goes-on-ended h answer next text′ isStep isText =
       turn-ended log at end start (going m begun text) fed short isEnd h ∙ ap (λ (l : List ℕ). ended (going m l text)) (sym isLine)
       ∙ ap (λ (s : Stepped). going (s .machine) [] (text ++ answerLine (s .answer))) (sym isStep) ∙ ap (going next []) (sym isText)

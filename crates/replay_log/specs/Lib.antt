@@ -1,2 +1,3 @@
 pub mod Replay
 pub mod Feed
+pub mod Run

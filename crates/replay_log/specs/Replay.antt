@@ -7,7 +7,7 @@ use lib.IntN.{ℤ, pos, negsuc}
 use Rattle.machine_state.specs.declared.Machine.{Machine}
 use Rattle.machine_state.specs.declared.Stepped.{Stepped}
 use Rattle.machine_state.specs.Machine.{bootOf}
-use Rattle.machine.specs.Step.{step}
+use Rattle.rules.specs.Step.{step}
 use Rattle.lines.specs.Lines.{lineEvent, lineRecord}
 use Rattle.texts.specs.Texts.{answerLine, bootLine}
 

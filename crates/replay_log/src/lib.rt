@@ -1,7 +1,8 @@
 // A run over a log: lines to events, events to answers, answers to text.
 //
 // The log may come in pieces, cut anywhere. A run keeps the machine and the bytes of a line that
-// has no line feed yet, at most 1,401 of them.
+// has no line feed yet, at most 1,401 of them. What is decided on an event is stored in place; only
+// an effect hands the machine over.
 ghost use mathlib.Core.Path.{_≡_};
 ghost use mathlib.Core.Bool.{false, _&&_};
 ghost use mathlib.Core.List.{[], _++_};
@@ -10,7 +11,9 @@ ghost use lib.Dec.{leb, ltb};
 ghost use lib.ListN.{length, take, drop};
 ghost use Rattle.texts.specs.Texts.{putLine, putCount};
 ghost use Rattle.replay_log.specs.Feed.{feed, finished, lineLength, goingOf};
-use fast_path::Seen;
+ghost use Rattle.replay_log.specs.Run.{Puts, Runs};
+use asking::Effect;
+use machine_state::Answer;
 use machine_state::Machine;
 use texts::MAX_TEXT;
 
@@ -92,15 +95,21 @@ fn goes_on(at: usize, given: usize, written: usize, room: usize) -> bool
     (at < given) & (MAX_TEXT <= room - written)
 }
 
+// Writes an answer behind what is written, and gives the place after it.
+fn put(answer: Answer, written: usize, out: &mut [u8]) -> usize
+    requires { ⌜ (written ≤ length (now out)) × (32 ≤ length (now out) - written) ⌝ }
+    ensures { λ r. ⌜ Puts answer written (now (out .entry)) r (now (out .exit)) ⌝ }
+{
+    written + texts::put_answer(answer, &mut out[written..])
+}
+
 // Runs over a piece of a log and writes the answers to `out`, as long as a line fits there. Gives
 // the run to go on with, how much of the piece was taken, and how much of `out` written.
 pub fn run(kept: Replay, log: &[u8], out: &mut [u8]) -> Ran
-    ensures { λ r. ⌜ feed (take (r .taken) (now (log .entry))) (goingOf kept []) ≡ goingOf (r .replay) (take (r .written) (now (out .exit))) ⌝ }
-    ensures { λ r. ⌜ drop (r .written) (now (out .exit)) ≡ drop (r .written) (now (out .entry)) ⌝ }
-    ensures { λ r. ⌜ (r .taken ≤ length (now (log .entry))) × (r .written ≤ length (now (out .entry))) ⌝ }
-    ensures { λ r. ⌜ (ltb (r .taken) (length (now (log .entry))) && leb 32 (length (now (out .entry)) - r .written)) ≡ false ⌝ }
+    ensures { λ r. ⌜ Runs kept (now (log .entry)) (now (out .entry)) r (now (out .exit)) ⌝ }
 {
     let mut m = kept.machine;
+    let mut waiting = m.waiting;
     let mut line = kept.line;
     let mut len = smaller(kept.len, KEPT);
     let mut record = [0u8; RECORD];
@@ -112,49 +121,54 @@ pub fn run(kept: Replay, log: &[u8], out: &mut [u8]) -> Ran
         at = end;
         if end < log.len() {
             at = end + 1;
-            let e = lines::event_of(&line[0..len]);
-            let power = m.power;
-            let waiting = m.waiting;
-            let look = fast_path::look_at(e, waiting);
-            let own = look.cpu;
-            let other = look.other;
-            let cell = look.cell;
-            let p = m.cpus[own];
-            let home = fast_path::cell_place(p.cell as u64);
-            let seen = Seen {
-                power,
-                boot: m.boot.cpus,
-                pages: m.boot.pool,
-                remap: m.boot.remap,
-                pool: m.pool,
-                used: m.used,
-                waiting,
-                cpu: p,
-                words: m.comms[home],
-                other: m.cpus[other],
-                asked: m.comms[cell],
-            };
-            let fast = fast_path::fast_step(e, seen);
-            if fast.taken {
-                let after = fast.cpu;
-                let words = fast.words;
-                let answer = fast.answer;
-                m.cpus[own] = after;
-                m.comms[home] = words;
-                written += texts::put_answer(answer, &mut out[written..]);
-            } else {
-                let n = lines::record_of(&line[0..len], &mut record);
-                let s = machine::step(m, e, &record[0..n]);
-                let answer = s.answer;
-                m = s.machine;
-                written += texts::put_answer(answer, &mut out[written..]);
-            }
+            let read = lines::read_line(&line[0..len], &mut record);
             len = 0;
+            let event = read.event;
+            let n = read.len;
+            let power = m.power;
+            let system = m.system;
+            let cells = m.cells;
+            let comms = m.comms;
+            let cpus = m.cpus;
+            let d = decide::decide(
+                power,
+                system,
+                m.pool_used,
+                m.live_ids,
+                m.root_cpus,
+                cells,
+                comms,
+                cpus,
+                waiting,
+                event,
+                &record[0..n],
+            );
+            let cpu = d.cpu;
+            let touch = d.touch;
+            let moves = d.moves;
+            let effect = moves.effect;
+            let cell = moves.cell;
+            let words = moves.words;
+            let answer = moves.answer;
+            written = put(answer, written, out);
+            m.cpus[cpu] = cpu_table::change_cpu(m.cpus[cpu], touch);
+            match effect {
+                Effect::NoEffect => {
+                    m.comms[cell] = comms::change_words(m.comms[cell], words);
+                    waiting = moves.waiting;
+                }
+                Effect::Comes(_, _) => {
+                    let held = manager::with_waiting(m, waiting);
+                    m = effects::carry_out(held, effect, &record[0..n]);
+                    m.comms[cell] = comms::change_words(m.comms[cell], words);
+                    waiting = moves.waiting;
+                }
+            }
         }
     }
     Ran {
         replay: Replay {
-            machine: m,
+            machine: manager::with_waiting(m, waiting),
             line,
             len,
         },
@@ -176,9 +190,10 @@ pub fn finish(kept: Replay, out: &mut [u8]) -> usize
     let m = kept.machine;
     let line = kept.line;
     let mut record = [0u8; RECORD];
-    let e = lines::event_of(&line[0..len]);
-    let n = lines::record_of(&line[0..len], &mut record);
-    let s = machine::step(m, e, &record[0..n]);
+    let read = lines::read_line(&line[0..len], &mut record);
+    let event = read.event;
+    let n = read.len;
+    let s = manager::step(m, event, &record[0..n]);
     let answer = s.answer;
     texts::put_answer(answer, out)
 }

@@ -26,7 +26,7 @@ systemOf r = record {
   pool = record { pages = u32 72 r; used = u32 76 r };
   remap = record { pages = u32 80 r; used = u32 84 r };
   timer = u16 88 r;
-  count = u16 6 r;
+  «region_count» = u16 6 r;
   regions = tableOf 96 (u16 6 r) r;
 }
 
@@ -48,7 +48,7 @@ bootRegionOk start size r = placed r && flagsOk r && ltb (r .flags) 8 && clearOf
 
 -- the regions of a system: those that the count names
 abbrev pub bootRegions : SystemConfig → List MemRegion
-bootRegions c = take (c .count) (c .regions)
+bootRegions c = take (c .«region_count») (c .regions)
 
 -- the rules on the values: the name, hypervisor memory "itself whole pages, at least one, ending by 2^48", and the regions
 unfoldable pub systemValid : SystemConfig → Bool

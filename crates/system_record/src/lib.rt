@@ -31,7 +31,7 @@ pub struct SystemConfig {
     pub pool: Pool,
     pub remap: Pool,
     pub timer: u16,
-    pub count: usize,
+    pub region_count: usize,
     pub regions: [MemRegion; MAX_REGIONS],
 }
 
@@ -68,7 +68,7 @@ pub fn system_of(s: &[u8]) -> SystemConfig
         pool,
         remap,
         timer: fields::u16_at(s, 88),
-        count,
+        region_count: count,
         regions,
     }
 }
@@ -121,8 +121,8 @@ pub fn system_valid(c: SystemConfig) -> bool
     let regions = c.regions;
     fields::is_name(&name)
         & regions::whole_pages(hypervisor.start, hypervisor.size)
-        & boot_regions_ok(hypervisor, regions, c.count)
-        & region_table::all_apart(regions, c.count)
+        & boot_regions_ok(hypervisor, regions, c.region_count)
+        & region_table::all_apart(regions, c.region_count)
 }
 
 // Whether a pool number is past 2^31 - 1.

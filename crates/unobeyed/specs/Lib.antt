@@ -1,1 +1,1 @@
-pub mod Unobeyed
+pub mod Admission

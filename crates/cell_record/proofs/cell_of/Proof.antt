@@ -21,7 +21,7 @@ returns c =
       name = name i;
       passive = passive i;
       cpus = c .u64-at .ensures i;
-      count = count i;
+      «region_count» = count i;
       regions = regions i;
     }
 

@@ -1,6 +1,6 @@
 -- `comm_region::region_byte` meets its contract: a byte is that of its word. Assumes nothing.
 use mathlib.Core.Path.{sym, ap, _∙_}
-use Rattle.comm_region.specs.declared.RegionByte.the-variants as RegionByte
+use Rattle.machine_state.specs.declared.RegionByte.the-variants as RegionByte
 use Rattle.comm_region.proofs.Laws.{byte-of-word}
 use borrow.Author.Needs.{needs}
 use Rattle.comm_region.proofs.region_byte.Statement.{statement}

@@ -4,7 +4,7 @@ use mathlib.Core.List.{_++_}
 use Prim.Native.Nat.{_^_, _<_}
 use native.Mathlib.Omega.{arith}
 use Rattle.cpu_set.specs.CpuSet.{count}
-use Rattle.comm_region.specs.CommRegion.{bytes, layout}
+use Rattle.rules.specs.CommRegion.{bytes, layout}
 use Rattle.comm_region.proofs.Laws.{number-bytes, number-halves, word-is, count-64}
 use borrow.Author.Needs.{needs}
 use Rattle.comm_region.proofs.word_of.Statement.{statement}
@@ -12,15 +12,15 @@ use Rattle.comm_region.proofs.word_of.Tie as tie
 
 returns : tie.Need-returns
 unfolding bytes layout
-returns c = word-is _ (bytes 4 (c .before .args .c .to)) (c .if1 .taken) refl (number-bytes 4 (c .before .args .c .to) (omega arith))
+returns c = word-is _ (bytes 4 (c .before .args .c .«msg_to_cell»)) (c .if1 .taken) refl (number-bytes 4 (c .before .args .c .«msg_to_cell») (omega arith))
 
 returns-2 : tie.Need-returns-2
 unfolding bytes layout
-returns-2 c = word-is _ (bytes 4 (c .before .before .args .c .from)) (c .if2 .taken) refl (number-bytes 4 (c .before .before .args .c .from) (omega arith))
+returns-2 c = word-is _ (bytes 4 (c .before .before .args .c .«reply_from_cell»)) (c .if2 .taken) refl (number-bytes 4 (c .before .before .args .c .«reply_from_cell») (omega arith))
 
 returns-3 : tie.Need-returns-3
 unfolding bytes layout
-returns-3 c = word-is _ (bytes 4 (c .before .before .before .args .c .state)) (c .if3 .taken) refl (number-bytes 4 (c .before .before .before .args .c .state) (omega arith))
+returns-3 c = word-is _ (bytes 4 (c .before .before .before .args .c .«cell_state»)) (c .if3 .taken) refl (number-bytes 4 (c .before .before .before .args .c .«cell_state») (omega arith))
 
 returns-4 : tie.Need-returns-4
 unfolding bytes layout

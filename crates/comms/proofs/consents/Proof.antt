@@ -1,5 +1,5 @@
 -- `comms::consents` meets its contract: it is the definition, with what `is_final` ensures. Assumes nothing.
-use Rattle.comms.specs.Comms.{consents}
+use Rattle.rules.specs.Asking.{consents}
 use borrow.Author.Needs.{needs}
 use Rattle.comms.proofs.consents.Statement.{statement}
 use Rattle.comms.proofs.consents.Tie as tie

@@ -1,6 +1,6 @@
 -- `comms::message` meets its contract: it is the definition. Assumes nothing.
 use mathlib.Core.Path.{refl}
-use Rattle.comms.specs.Comms.{message}
+use Rattle.rules.specs.Asking.{message}
 use Rattle.comms.proofs.message.Statement.{statement}
 use Rattle.comms.proofs.message.Tie as tie
 

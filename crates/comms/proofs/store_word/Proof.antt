@@ -1,5 +1,5 @@
 -- `comms::store_word` meets its contract: by the word. Assumes nothing.
-use Rattle.comms.specs.Comms.{storeWord, withState}
+use Rattle.rules.specs.Effects.{storeWord}
 use Rattle.comms.proofs.Laws.{store-state}
 use Rattle.comms.proofs.store_word.Statement.{statement}
 use Rattle.comms.proofs.store_word.Tie as tie
@@ -13,7 +13,7 @@ unfolding storeWord
 returns-2 c = rw (c .if2 .taken, storeWord)
 
 returns-3 : tie.Need-returns-3
-unfolding withState
+unfolding storeWord
 returns-3 c = store-state _ _ _ (c .before .if1 .left) (c .if2 .left)
 
 pub store-word-spec : {M : Type 1} → statement M

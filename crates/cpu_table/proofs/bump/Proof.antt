@@ -3,7 +3,7 @@ use mathlib.Core.Path.{ap, sym}
 use lib.ListN.{set}
 use lib.Seq.{set-out}
 use native.Mathlib.Omega.{arith}
-use Rattle.cpu_table.specs.CpuTable.{bump}
+use Rattle.rules.specs.Effects.{bump}
 use borrow.Author.Needs.{needs}
 use Rattle.cpu_table.proofs.bump.Statement.{statement}
 use Rattle.cpu_table.proofs.bump.Tie as tie

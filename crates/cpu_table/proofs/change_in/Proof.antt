@@ -1,6 +1,6 @@
 -- `cpu_table::change_in` meets its contract: by whether the CPU is in the set. Assumes nothing.
 use mathlib.Core.Path.{sym, _∙_}
-use Rattle.cpu_table.specs.CpuTable.{changeIn}
+use Rattle.rules.specs.Effects.{changeIn}
 use borrow.Author.Needs.{needs}
 use Rattle.cpu_table.proofs.change_in.Statement.{statement}
 use Rattle.cpu_table.proofs.change_in.Tie as tie

@@ -1,6 +1,6 @@
 -- `cpu_table::count_exit` meets its contract: the total first, then the exit's own counter. Assumes nothing.
 use mathlib.Core.Path.{ap, _∙_}
-use Rattle.cpu_table.specs.CpuTable.{countExit, bump}
+use Rattle.rules.specs.Effects.{countExit, bump}
 use borrow.Author.Needs.{needs}
 use Rattle.cpu_table.proofs.count_exit.Statement.{statement}
 use Rattle.cpu_table.proofs.count_exit.Tie as tie

@@ -1,6 +1,6 @@
 -- `cpu_table::fail_cpu` meets its contract: it is the definition. Assumes nothing.
 use mathlib.Core.Path.{refl}
-use Rattle.cpu_table.specs.CpuTable.{failCpu}
+use Rattle.rules.specs.Effects.{failCpu}
 use Rattle.cpu_table.proofs.fail_cpu.Statement.{statement}
 use Rattle.cpu_table.proofs.fail_cpu.Tie as tie
 

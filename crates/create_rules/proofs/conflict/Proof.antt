@@ -1,6 +1,6 @@
 -- `create_rules::conflict` meets its contract: it is the definition, with what its parts ensure. Assumes nothing.
 use Rattle.regions.specs.Regions.{overlapPhys}
-use Rattle.create_rules.specs.CreateRules.{conflict}
+use Rattle.rules.specs.Create.{conflict}
 use borrow.Author.Needs.{needs}
 use Rattle.create_rules.proofs.conflict.Statement.{statement}
 use Rattle.create_rules.proofs.conflict.Tie as tie

@@ -9,7 +9,7 @@ use lib.ListN.{take}
 use Rattle.base.specs.Lists.{any}
 use Rattle.base.proofs.Lists.{any-none, any-turn, take-used}
 use Rattle.regions.specs.declared.MemRegion.{MemRegion}
-use Rattle.create_rules.specs.CreateRules.{conflict, conflicts}
+use Rattle.rules.specs.Create.{conflict, conflicts}
 use borrow.Author.Needs.{needs}
 use Rattle.create_rules.proofs.conflicts_all.Statement.{statement}
 use Rattle.create_rules.proofs.conflicts_all.Tie as tie

@@ -6,7 +6,7 @@ use native.Mathlib.Omega.{arith}
 use lib.ListN.{take}
 use Rattle.base.specs.Lists.{any}
 use Rattle.base.proofs.Lists.{any-none, any-turn, take-used}
-use Rattle.create_rules.specs.CreateRules.{conflict}
+use Rattle.rules.specs.Create.{conflict}
 use borrow.Author.Needs.{needs}
 use Rattle.create_rules.proofs.conflicts_one.Statement.{statement}
 use Rattle.create_rules.proofs.conflicts_one.Tie as tie

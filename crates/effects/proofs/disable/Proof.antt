@@ -1,22 +1,36 @@
--- `effects::disable` meets its contract: each part is what its function ensures. Assumes nothing.
-use lib.ListN.{replicate}
-use Rattle.machine_state.specs.Machine.{maxCells}
-use Rattle.effects.specs.Effects.{disableEffect}
+-- `effects::disable` meets its contract: the loop's invariant: destroying the cells from i up makes of the machine what destroying all makes of the first. Assumes nothing.
+use mathlib.Core.Path.{_≡_, refl, sym, ap, _∙_}
+use native.Mathlib.Numerals.{add-one-le}
+use Prim.Native.Nat.{_-_, _≤_}
+use native.Mathlib.Omega.{arith}
+use Rattle.base.specs.Lists.{from}
+use Rattle.machine_state.specs.declared.Power.the-variants.{Disabled}
+use Rattle.rules.specs.State.{withPower, cellIds}
+use Rattle.rules.specs.Effects.{allDestroyed, disabled}
+use Rattle.effects.proofs.Laws.{destroy-turn, destroy-end}
 use borrow.Author.Needs.{needs}
 use Rattle.effects.proofs.disable.Statement.{statement}
 use Rattle.effects.proofs.disable.Tie as tie
 
-returns : tie.Need-returns
-unfolding disableEffect
+abbrev Inv-loop : tie.InvT-loop
+Inv-loop m₀ i₀ m i = (i ≤ 16) × (allDestroyed (from i (16 - i)) m ≡ allDestroyed cellIds m₀)
+
+abbrev μ-loop : tie.MeasureT-loop
+μ-loop m₀ i₀ m i = 16 - i
+
+loop-holds : tie.Need-loop-holds Inv-loop μ-loop
+loop-holds c = (search needs, refl)
+
+loop-again : tie.Need-loop-again Inv-loop μ-loop
+loop-again c =
+    let l = c .before .before .loop in
+    (add-one-le (c .before .loop-test .taken), sym (destroy-turn (l .i) _ _ (c .before .loop-test .taken) (c .destroy-live .ensures)) ∙ l .inv .1)
+
+returns : tie.Need-returns Inv-loop μ-loop
+unfolding disabled
 returns c =
-    λ i. record {
-      pool = c .before .before .before .given-back .ensures i;
-      used = 1;
-      root = c .before .before .union .ensures i;
-      comms = replicate maxCells (c .before .no-comm .ensures i);
-      cpus = c .change-cpus .ensures i;
-      waiting = c .before .before .before .before .before .args .core .waiting;
-    }
+    let l = c .before .before .loop in
+    c .switch-off .ensures ∙ ap (withPower Disabled) (sym (destroy-end (l .i) _ (c .before .loop-test .left)) ∙ l .inv .1)
 
 pub disable-spec : {M : Type 1} → statement M
-disable-spec = tie.close (tie.spec (λ c κs. search needs) (λ c κs. search needs) (λ c κs. search needs) (λ c κs. search needs) returns)
+disable-spec = tie.close (tie.spec Inv-loop μ-loop loop-holds (λ c κs. search needs) (λ c. search needs) (λ c. search needs) loop-again (λ c κs. search needs) returns)

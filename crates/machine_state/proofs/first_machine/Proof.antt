@@ -1,6 +1,6 @@
 -- `machine_state::first_machine` meets its contract: its tables are what their elements' makers ensure. Assumes nothing.
 use lib.ListN.{replicate}
-use Rattle.machine_state.specs.declared.Waiting.the-variants.{Nothing}
+use Rattle.machine_state.specs.declared.Waiting.the-variants.{NoCall}
 use Rattle.machine_state.specs.Machine.{firstMachine, maxCells, maxCpus}
 use borrow.Author.Needs.{needs}
 use Rattle.machine_state.proofs.first_machine.Statement.{statement}
@@ -12,14 +12,14 @@ returns c =
     let a = c .before .before .before .before .args in
     λ i. record {
       power = a .power;
-      boot = a .boot;
-      pool = a .boot .pool .used;
-      used = 1;
-      root = a .boot .cpus;
+      system = a .system;
+      «pool_used» = a .system .pool .used;
+      «live_ids» = 1;
+      «root_cpus» = a .system .cpus;
       cells = replicate maxCells (c .before .before .no-cell .ensures i);
       comms = replicate maxCells (c .before .no-comm .ensures i);
       cpus = replicate maxCpus (c .fresh-cpu .ensures i);
-      waiting = Nothing;
+      waiting = NoCall;
     }
 
 pub first-machine-spec : {M : Type 1} → statement M

@@ -10,7 +10,7 @@ use Rattle.machine_state.proofs.no_cell.Tie as tie
 returns : tie.Need-returns
 unfolding noCell
 returns c =
-    λ i. record { phase = Suspended; name = replicate 32 0; cpus = 0; count = 0; regions = replicate maxRegions (c .no-region .ensures i) }
+    λ i. record { phase = Suspended; name = replicate 32 0; cpus = 0; «region_count» = 0; regions = replicate maxRegions (c .no-region .ensures i) }
 
 pub no-cell-spec : {M : Type 1} → statement M
 no-cell-spec = tie.close (tie.spec (λ c κs. search needs) returns)

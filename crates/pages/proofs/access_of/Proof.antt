@@ -1,6 +1,6 @@
 -- `pages::access_of` meets its contract: it is the definition. Assumes nothing.
 use mathlib.Core.Path.{refl}
-use Rattle.pages.specs.Pages.{accessOf}
+use Rattle.rules.specs.Pages.{accessOf}
 use Rattle.pages.proofs.access_of.Statement.{statement}
 use Rattle.pages.proofs.access_of.Tie as tie
 

@@ -1,5 +1,5 @@
 -- `pages::has_phys` meets its contract: it is the definition, with what `has_page` ensures. Assumes nothing.
-use Rattle.pages.specs.Pages.{hasPhys}
+use Rattle.rules.specs.Pages.{hasPhys}
 use borrow.Author.Needs.{needs}
 use Rattle.pages.proofs.has_phys.Statement.{statement}
 use Rattle.pages.proofs.has_phys.Tie as tie

@@ -1,5 +1,5 @@
 -- `pages::has_virt` meets its contract: it is the definition, with what `has_page` ensures. Assumes nothing.
-use Rattle.pages.specs.Pages.{hasVirt}
+use Rattle.rules.specs.Pages.{hasVirt}
 use borrow.Author.Needs.{needs}
 use Rattle.pages.proofs.has_virt.Statement.{statement}
 use Rattle.pages.proofs.has_virt.Tie as tie

@@ -1,7 +1,7 @@
 -- `pages::open_to_root` meets its contract: each arm is its case of the definition. Assumes nothing.
 use mathlib.Core.Path.{sym, ap}
-use Rattle.pages.specs.declared.Owner.{Owner}
-use Rattle.pages.specs.Pages.{openToRoot}
+use Rattle.machine_state.specs.declared.Owner.{Owner}
+use Rattle.rules.specs.Pages.{openToRoot}
 use borrow.Author.Needs.{needs}
 use Rattle.pages.proofs.open_to_root.Statement.{statement}
 use Rattle.pages.proofs.open_to_root.Tie as tie

@@ -3,7 +3,7 @@
 use mathlib.Core.Path.{_≡_, refl, sym, _∙_}
 use Prim.Native.Nat.{_≤_, _-_}
 use lib.ListN.{take, drop}
-use Rattle.pages.specs.Pages.{regionFor}
+use Rattle.rules.specs.Pages.{regionFor}
 use Rattle.pages.proofs.Laws.{region-here, region-next, region-none}
 use borrow.Author.Needs.{needs}
 use Rattle.pages.proofs.region_for.Statement.{statement}

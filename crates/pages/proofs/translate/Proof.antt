@@ -2,21 +2,21 @@
 -- region's first, and below 2^36, so that no number wraps. Assumes nothing.
 use mathlib.Core.Path.{sym, _∙_}
 use borrow.Author.Tests.{not-true, not-false}
-use Rattle.pages.specs.declared.Mapping.the-variants.{Page}
-use Rattle.pages.specs.Pages.{mapped, hasVirt, physOf}
+use Rattle.machine_state.specs.declared.Mapping.the-variants.{Page}
+use Rattle.rules.specs.Pages.{mappedBy, hasVirt, physOf}
 use Rattle.pages.proofs.Laws.{page-small, page-starts, page-sum}
 use borrow.Author.Needs.{needs}
 use Rattle.pages.proofs.translate.Statement.{statement}
 use Rattle.pages.proofs.translate.Tie as tie
 
 returns : tie.Need-returns
-unfolding mapped
-returns c = rw (sym (c .before .has-virt .ensures) ∙ not-true _ (c .if1 .taken), mapped)
+unfolding mappedBy
+returns c = rw (sym (c .before .has-virt .ensures) ∙ not-true _ (c .if1 .taken), mappedBy)
 
 returns-2 : tie.Need-returns-2
-unfolding mapped
+unfolding mappedBy
 returns-2 c =
-    rw (sym (c .before .before .before .has-virt .ensures) ∙ not-false _ (c .before .before .if1 .left), sym (c .before .is-comm .ensures) ∙ c .if2 .taken, mapped)
+    rw (sym (c .before .before .before .has-virt .ensures) ∙ not-false _ (c .before .before .if1 .left), sym (c .before .is-comm .ensures) ∙ c .if2 .taken, mappedBy)
 
 sub-t8 : tie.Need-sub-t8
 unfolding hasVirt
@@ -31,10 +31,10 @@ add-t9 c =
     }
 
 returns-3 : tie.Need-returns-3
-unfolding mapped physOf
+unfolding mappedBy physOf
 returns-3 c =
     let a = c .before .before .before .before .before .before .before .before .args in
-    rw (sym (c .before .before .before .before .before .before .before .has-virt .ensures) ∙ not-false _ (c .before .before .before .before .before .before .if1 .left), sym (c .before .before .before .before .before .is-comm .ensures) ∙ c .before .before .before .before .if2 .left, mapped)
+    rw (sym (c .before .before .before .before .before .before .before .has-virt .ensures) ∙ not-false _ (c .before .before .before .before .before .before .if1 .left), sym (c .before .before .before .before .before .is-comm .ensures) ∙ c .before .before .before .before .if2 .left, mappedBy)
     (λ i. Page (physOf (a .r) (a .page)) (c .access-of .ensures i))
 
 pub translate-spec : {M : Type 1} → statement M

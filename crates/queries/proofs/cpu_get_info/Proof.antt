@@ -1,36 +1,37 @@
--- `queries::cpu_get_info` meets its contract: each test is a row of the table, in its order. Assumes nothing.
-use mathlib.Core.Path.{sym, ap, _∙_}
-use borrow.Author.Tests.{eq-eqb, ne-eqb}
-use Rattle.base.proofs.Rules.{rule-holds, rule-passed, no-rule}
-use mathlib.Core.Bool.{not}
-use Rattle.queries.specs.Queries.{cpuInfo}
-use Rattle.queries.proofs.Laws.{back, between}
+-- `queries::cpu_get_info` meets its contract: the boot set's row, then the others, of the caller counted and of the CPU asked about, which may
+-- be the caller's own. Assumes nothing.
+use mathlib.Core.Path.{refl, sym, _∙_}
+use Rattle.rules.specs.State.{withCpus}
+use Rattle.rules.specs.Effects.{counted}
+use Rattle.rules.specs.Queries.{cpuGetInfo}
+use Rattle.queries.proofs.Laws.{answers, not-both, unlisted-row, in-table, listed, caller-counted, asked-counted}
 use borrow.Author.Needs.{needs}
 use Rattle.queries.proofs.cpu_get_info.Statement.{statement}
 use Rattle.queries.proofs.cpu_get_info.Tie as tie
 
-counter-requires : tie.Need-counter-requires
-counter-requires c κs = between 1000 (c .before .before .before .before .before .before .args .kind) 1005 (c .if4 .taken)
-
 returns : tie.Need-returns
-unfolding cpuInfo
-returns c = rule-holds _ _ _ (ap not (sym (c .before .contains .ensures)) ∙ c .if1 .taken)
+unfolding cpuGetInfo counted withCpus
+returns c m h b s = answers _ _ _ _ _ (unlisted-row _ _ _ (c .before .contains .ensures) _ (c .if1 .taken) m b) refl
 
 returns-2 : tie.Need-returns-2
-unfolding cpuInfo
-returns-2 c = rule-holds _ _ _ (c .if2 .taken) ∙ rule-passed _ _ _ (ap not (sym (c .before .before .before .contains .ensures)) ∙ c .before .before .if1 .left)
+returns-2 c m h b s = absurd (not-both _ h (c .if2 .taken))
+
+asked-cpu-requires : tie.Need-asked-cpu-requires
+asked-cpu-requires c κs =
+    let found = c .before .before .before in
+    in-table _ _ _ (found .before .contains .ensures) (found .if1 .left)
 
 returns-3 : tie.Need-returns-3
-unfolding cpuInfo
-returns-3 c = back (c .cpu-state .ok) ∙ c .cpu-state .ensures ∙ rule-holds _ _ _ (eq-eqb _ _ (c .before .if3 .taken)) ∙ rule-passed _ _ _ (c .before .before .if2 .left) ∙ rule-passed _ _ _ (ap not (sym (c .before .before .before .before .before .contains .ensures)) ∙ c .before .before .before .before .if1 .left)
-
-returns-4 : tie.Need-returns-4
-unfolding cpuInfo
-returns-4 c = back (c .counter .ok) ∙ c .counter .ensures ∙ rule-holds _ _ _ (c .before .if4 .taken) ∙ rule-passed _ _ _ (ne-eqb _ _ (c .before .before .if3 .left)) ∙ rule-passed _ _ _ (c .before .before .before .if2 .left) ∙ rule-passed _ _ _ (ap not (sym (c .before .before .before .before .before .before .contains .ensures)) ∙ c .before .before .before .before .before .if1 .left)
-
-returns-5 : tie.Need-returns-5
-unfolding cpuInfo
-returns-5 c = no-rule _ ∙ rule-passed _ _ _ (c .if4 .left) ∙ rule-passed _ _ _ (ne-eqb _ _ (c .before .if3 .left)) ∙ rule-passed _ _ _ (c .before .before .if2 .left) ∙ rule-passed _ _ _ (ap not (sym (c .before .before .before .before .before .contains .ensures)) ∙ c .before .before .before .before .if1 .left)
+unfolding counted withCpus
+returns-3 c m h b s =
+    let own = c .before .before in
+    let found = own .before .before .before in
+    let entry = found .before .before in
+    let size = entry .good .1 .0 .1 .0 .1 in
+    c .cpu-figure .ensures _ _ _
+    (caller-counted m _ _ s size h ∙ sym (own .change-cpu .ensures))
+    (asked-counted m _ _ s size h _ _ _ (own .change-cpu .ensures) (c .before .asked-cpu .ensures))
+    (listed _ _ _ (found .before .contains .ensures) (found .if1 .left) m b)
 
 pub cpu-get-info-spec : {M : Type 1} → statement M
-cpu-get-info-spec = tie.close (tie.spec (λ c κs. search needs) returns returns-2 (λ c κs. search needs) returns-3 counter-requires returns-4 returns-5)
+cpu-get-info-spec = tie.close (tie.spec (λ c κs. search needs) returns returns-2 (λ c. search needs) (λ c. search needs) (λ c κs. search needs) asked-cpu-requires (λ c κs. search needs) returns-3)

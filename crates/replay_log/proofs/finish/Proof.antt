@@ -6,7 +6,7 @@ use native.Mathlib.Omega.{arith}
 use lib.ListN.{length, take, length-take}
 use borrow.Author.Needs.{needs, length-unmapped}
 use Rattle.machine_state.specs.declared.Event.{Event}
-use Rattle.machine.specs.Step.{step}
+use Rattle.rules.specs.Step.{step}
 use Rattle.texts.specs.Texts.{putLine, putCount}
 use Rattle.replay_log.specs.Feed.{goingOf, finished, keptBytes}
 use Rattle.replay_log.proofs.Buffers.{kept-bytes, whole-part, record-read, put-none}
@@ -21,16 +21,6 @@ inside size len n s e = omega arith
 some : (line : List ℕ) (n : ℕ) → n ≤ length line → (n ≡ 0 → ⊥) → 0 < length (take n line)
 some line n low other = let e = length-take n line in omega arith
 
-part-event-of-end : tie.Need-part-event-of-end
-part-event-of-end c =
-    let a = c .before .before .before .before .before .before .args in
-    inside (length (a .kept .line)) (a .kept .len) (c .before .before .before .before .smaller .result) (length-unmapped ℕ (a .kept .line) keptBytes (c .before .before .before .before .before .before .good .0 .1 .1 .1 .0 .1 .0 .1)) (c .before .before .before .before .smaller .ensures)
-
-part-record-of-end : tie.Need-part-record-of-end
-part-record-of-end c =
-    let a = c .before .before .before .before .before .before .before .before .before .args in
-    inside (length (a .kept .line)) (a .kept .len) (c .before .before .before .before .before .before .before .smaller .result) (length-unmapped ℕ (a .kept .line) keptBytes (c .before .before .before .before .before .before .before .before .before .good .0 .1 .1 .1 .0 .1 .0 .1)) (c .before .before .before .before .before .before .before .smaller .ensures)
-
 returns : tie.Need-returns
 unfolding goingOf
 returns c =
@@ -41,23 +31,37 @@ returns c =
     subst (λ (t : List ℕ). (0 ≡ putCount 32 t (a .out .now)) × (a .out .now ≡ putLine 32 t (a .out .now)))
     (sym (end-none (k .machine) (take (k .len) (k .line)) none)) (put-none (a .out .now))
 
+part-read-line-end : tie.Need-part-read-line-end
+part-read-line-end c =
+    let sized = c .before .before .before .before in
+    let entry = sized .before .before in
+    let k = entry .args .kept in
+    inside (length (k .line)) (k .len) (sized .smaller .result) (length-unmapped ℕ (k .line) keptBytes (entry .good .0 .1 .1 .1 .0 .1 .0 .1)) (sized .smaller .ensures)
+
 returns-2 : tie.Need-returns-2
 unfolding goingOf
 returns-2 c =
-    let a = c .before .before .before .before .before .before .before .before .before .before .before .before .before .before .before .before .before .before .before .before .args in
+    let wrote = c .before .before in
+    let stepped = wrote .before .before in
+    let read = stepped .before .before .before .before in
+    let some-kept = read .before .before .before .before .before .before in
+    let sized = some-kept .before in
+    let entry = sized .before .before in
+    let a = entry .args in
     let k = a .kept in
-    let size = length-unmapped ℕ (k .line) keptBytes (c .before .before .before .before .before .before .before .before .before .before .before .before .before .before .before .before .before .before .before .before .good .0 .1 .1 .1 .0 .1 .0 .1) in
-    let n = c .before .before .before .before .before .before .before .before .before .before .before .before .before .before .before .before .before .before .smaller in
-    let r = c .before .before .before .before .before .before .before .before .record-of in
-    let s = c .before .before .before .before .step in
+    let n = sized .smaller in
+    let r = read .read-line in
+    let s = stepped .step in
+    let u = wrote .put-answer in
+    let size = length-unmapped ℕ (k .line) keptBytes (entry .good .0 .1 .1 .1 .0 .1 .0 .1) in
     let line = take (n .result - 0) (k .line) in
     let isLine = whole-part (n .result) (k .line) ∙ kept-bytes (k .line) (k .len) (n .result) size (n .ensures) in
-    let isStep = s .ensures ∙ ap₂ (λ (x : Event) (bytes : List ℕ). step x bytes (k .machine)) (c .before .before .before .before .before .before .before .before .before .before .before .before .event-of .ensures)
-    (whole-part (r .result) (r .last .1 .0) ∙ record-read line _ (r .last .1 .0) (r .result) refl (r .ensures .0) (r .ensures .1)) in
-    let more = some (k .line) (n .result) (inside (length (k .line)) (k .len) (n .result) size (n .ensures)) (c .before .before .before .before .before .before .before .before .before .before .before .before .before .before .before .before .before .if1 .left) in
+    let isStep = s .ensures ∙ ap₂ (λ (x : Event) (bytes : List ℕ). step x bytes (k .machine)) (r .ensures .event)
+    (whole-part (r .result .len) (r .last .1 .0) ∙ record-read line _ (r .last .1 .0) (r .result .len) refl (r .ensures .size) (r .ensures .bytes)) in
+    let more = some (k .line) (n .result) (inside (length (k .line)) (k .len) (n .result) size (n .ensures)) (some-kept .if1 .left) in
     let fin = ap (λ (b : List ℕ). finished (going (k .machine) b [])) (sym isLine)
     ∙ end-some (k .machine) line (subst (λ (b : List ℕ). 0 < length b) (sym (whole-part (n .result) (k .line))) more) (s .result) isStep in
-    subst (λ (t : List ℕ). (c .before .before .put-answer .result ≡ putCount 32 t (a .out .now)) × (c .before .before .put-answer .last .1 .0 ≡ putLine 32 t (a .out .now))) (sym fin) (c .before .before .put-answer .ensures)
+    subst (λ (t : List ℕ). (u .result ≡ putCount 32 t (a .out .now)) × (u .last .1 .0 ≡ putLine 32 t (a .out .now))) (sym fin) (u .ensures)
 
 pub finish-spec : {M : Type 1} → statement M
-finish-spec = tie.close (tie.spec (λ c κs. search needs) returns (λ c. search needs) (λ c. search needs) part-event-of-end (λ c κs. search needs) (λ c. search needs) (λ c. search needs) part-record-of-end (λ c. search needs) (λ c κs. search needs) (λ c. search needs) (λ c. search needs) (λ c. search needs) (λ c κs. search needs) (λ c κs. search needs) (λ c. search needs) returns-2)
+finish-spec = tie.close (tie.spec (λ c κs. search needs) returns (λ c. search needs) (λ c. search needs) part-read-line-end (λ c. search needs) (λ c κs. search needs) (λ c. search needs) (λ c. search needs) (λ c. search needs) (λ c κs. search needs) (λ c κs. search needs) (λ c. search needs) returns-2)

@@ -23,7 +23,7 @@ returns c =
       pool = record { pages = c .before .before .before .before .before .before .before .u32-at .ensures i; used = c .before .before .before .before .before .before .u32-at2 .ensures i };
       remap = record { pages = c .before .before .before .before .before .u32-at3 .ensures i; used = c .before .before .before .before .u32-at4 .ensures i };
       timer = c .u16-at3 .ensures i;
-      count = count i;
+      «region_count» = count i;
       regions = regions i;
     }
 

@@ -1,1 +1,0 @@
-// The account of a waiting call: definitions and their laws, and no code.

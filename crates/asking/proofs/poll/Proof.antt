@@ -1,0 +1,24 @@
+-- `asking::poll` meets its contract: by whether a call waits. Assumes nothing.
+use mathlib.Core.Path.{sym, ap, _∙_}
+use Rattle.machine_state.specs.declared.Waiting.{Waiting}
+use Rattle.rules.specs.Asking.{poll}
+use Rattle.asking.proofs.Laws.{moves-as}
+use borrow.Author.Needs.{needs}
+use Rattle.asking.proofs.poll.Statement.{statement}
+use Rattle.asking.proofs.poll.Tie as tie
+
+returns : tie.Need-returns
+unfolding poll
+returns c =
+    let a = c .before .before .before .args in
+    moves-as (c .stay .ensures) (λ m h. h .waits) (λ m new h. ap (λ (w : Waiting). poll w new m) (sym (c .before .enum-told .given .1)))
+
+returns-2 : tie.Need-returns-2
+unfolding poll
+returns-2 c =
+    let told = c .before .before .waiting .given .1 in
+    moves-as (c .poll-cell .ensures) (λ m h. record { parts = h .parts; waits = h .waits ∙ told })
+    (λ m new h. ap (λ (w : Waiting). poll w new m) (sym told))
+
+pub poll-spec : {M : Type 1} → statement M
+poll-spec = tie.close (tie.spec (λ c. search needs) (λ c κs. search needs) (λ c. search needs) (λ c κs. search needs) returns returns-2)

@@ -1,0 +1,74 @@
+-- The set of live IDs with one more and with one less: by the members of each number below 16. Assumes nothing.
+use mathlib.Core.Bool.{Bool, false, not, _&&_, _||_, or-comm, and-comm}
+use mathlib.Core.Path.{_≡_, refl, sym, ap, ap₂, _∙_}
+use Prim.Native.Nat.{ℕ, zero, suc, _+_, _%_, _^_, _<_, _≤_}
+use native.Mathlib.Decide.{ℕ-discrete}
+use native.Mathlib.Omega.{arith}
+use borrow.Author.Tests.{lt-ltb, eq-eqb, ne-eqb}
+use lib.Dec.{eqb}
+use Rattle.cpu_set.specs.CpuSet.{bit, member, numberOf, union, without}
+use Rattle.cpu_set.proofs.Laws.{low-bits, bit-number, member-setOf}
+use Rattle.rules.specs.State.{hasId, idsWhere}
+use Rattle.rules.specs.Effects.{addId, dropId}
+
+-- an ID is in a set where its bit is
+pub has-bit : (ids k : ℕ) → k < 16 → hasId ids k ≡ bit k ids
+unfolding hasId
+has-bit ids k h = rw (lt-ltb k 16 h, hasId)
+
+member-low : (ids k : ℕ) → k < 16 → member k ids ≡ hasId ids k
+unfolding member
+member-low ids k h = rw (lt-ltb k 64 (omega arith), member) (sym (has-bit ids k h))
+
+pub has-where : (p : ℕ → Bool) (k : ℕ) → k < 16 → hasId (idsWhere p) k ≡ p k
+has-where p k h = has-bit (idsWhere p) k h ∙ bit-number 16 p k h
+
+pub has-added : (id ids k : ℕ) → k < 16 → hasId (addId id ids) k ≡ (eqb k id || hasId ids k)
+unfolding addId
+has-added id ids k h = has-where (λ i. eqb i id || hasId ids i) k h
+
+pub has-dropped : (id ids k : ℕ) → k < 16 → hasId (dropId id ids) k ≡ (not (eqb k id) && hasId ids k)
+unfolding dropId
+has-dropped id ids k h = has-where (λ i. not (eqb i id) && hasId ids i) k h
+
+-- the set of one number
+only-none : (n id : ℕ) → n ≤ id → numberOf n (λ k. eqb k id) ≡ 0
+unfolding numberOf
+only-none zero id h = refl
+only-none (suc n) id h = rw (ne-eqb n id (λ e. omega arith), numberOf) (only-none n id (omega arith))
+
+only-one : (n id : ℕ) → id < n → numberOf n (λ k. eqb k id) ≡ 2 ^ id
+unfolding numberOf
+only-one zero id h = absurd (omega arith)
+only-one (suc n) id h = go (ℕ-discrete n id) (only-one n id)
+  where
+    go : Dec (n ≡ id) → (id < n → numberOf n (λ k. eqb k id) ≡ 2 ^ id) → numberOf (suc n) (λ k. eqb k id) ≡ 2 ^ id
+    go (yes e) f = rw (eq-eqb n id e, numberOf) (ap₂ (λ (x y : ℕ). x + 2 ^ y) (only-none n id (omega arith)) e ∙ omega arith)
+    go (no e) f = rw (ne-eqb n id e, numberOf) (f (omega arith))
+
+pub power-member : (id k : ℕ) → id < 64 → k < 64 → member k (2 ^ id) ≡ eqb k id
+power-member id k h l = ap (member k) (sym (only-one 64 id h)) ∙ member-setOf (λ i. eqb i id) k l
+
+none : (n : ℕ) → numberOf n (λ k. false) ≡ 0
+unfolding numberOf
+none zero = refl
+none (suc n) = none n
+
+pub zero-member : (k : ℕ) → k < 64 → member k 0 ≡ false
+zero-member k l = ap (member k) (sym (none 64)) ∙ member-setOf (λ i. false) k l
+
+-- a set of 64 members, cut to its first 16
+module _ (ids one id : ℕ) (is : (k : ℕ) → k < 64 → member k one ≡ eqb k id) where
+  pub added : union ids one % 2 ^ 16 ≡ addId id ids
+  unfolding union addId
+  added =
+      low-bits 16 (union ids one) (λ k. eqb k id || hasId ids k)
+      (λ k h. bit-number 64 (λ i. member i ids || member i one) k (omega arith)
+      ∙ ap₂ (λ (x y : Bool). x || y) (member-low ids k h) (is k (omega arith)) ∙ or-comm (hasId ids k) (eqb k id))
+
+  pub dropped : without ids one % 2 ^ 16 ≡ dropId id ids
+  unfolding without dropId
+  dropped =
+      low-bits 16 (without ids one) (λ k. not (eqb k id) && hasId ids k)
+      (λ k h. bit-number 64 (λ i. member i ids && not (member i one)) k (omega arith)
+      ∙ ap₂ (λ (x y : Bool). x && not y) (member-low ids k h) (is k (omega arith)) ∙ and-comm (hasId ids k) (not (eqb k id)))

@@ -1,0 +1,167 @@
+-- Calls: each row of a table is taken where its test holds and passed where it does not, and a code's row is found by computing. The machine
+-- where a call is counted differs from the one before it in the caller's counters alone. Assumes nothing.
+use mathlib.Core.Bool.{Bool, true, false, not, _&&_, _||_}
+use mathlib.Core.List.{List}
+use mathlib.Core.Path.{_≡_, refl, sym, ap, _∙_}
+use Prim.Native.Nat.{ℕ, _<_, _≤_}
+use borrow.Author.Tests.{eq-eqb, ne-eqb, lt-ltb, le-ltb}
+use lib.Dec.{leb, eqb}
+use lib.ListN.{length}
+use lib.Seq.{getD-set-same}
+use Rattle.base.specs.Rules.{firstRule, EPERM, ENOENT, EINVAL, ENOSYS}
+use Rattle.base.proofs.Rules.{rule-holds, rule-passed, no-rule}
+use Rattle.cell_record.specs.declared.CellConfig.{CellConfig}
+use Rattle.cell_record.specs.CellRecord.{cellOf}
+use Rattle.system_record.specs.declared.SystemConfig.{SystemConfig}
+use Rattle.machine_state.specs.declared.Answer.{Answer}
+use Rattle.machine_state.specs.declared.Cell.{Cell}
+use Rattle.machine_state.specs.declared.CommRegion.{CommRegion}
+use Rattle.machine_state.specs.declared.Waiting.{Waiting}
+use Rattle.machine_state.specs.declared.Cpu.{Cpu}
+use Rattle.machine_state.specs.declared.CallKind.{CallKind}
+use Rattle.machine_state.specs.declared.CallKind.the-variants.{Disable, Create, Start, SetLoadable, Destroy}
+use Rattle.machine_state.specs.declared.Machine.{Machine}
+use Rattle.machine_state.specs.declared.Stepped.{Stepped}
+use Rattle.machine_state.specs.Machine.{pastCpu}
+use Rattle.rules.specs.State.{rootId, cpuAt, live, withCpus, answered}
+use Rattle.rules.specs.Queries.{getInfo, getState, cpuGetInfo}
+use Rattle.rules.specs.Create.{otherCellLocked, freeId}
+use Rattle.rules.specs.Effects.{counted, countExit, callCounter}
+use Rattle.rules.specs.Asking.{ask, isDestroy}
+use Rattle.rules.specs.Calls.{ends, cpuGetInfoCode, cellDestroy, cellGetState, disableCall, createCall, targetCall, callByCode, call}
+use Rattle.asking.specs.declared.Move.{Move}
+use Rattle.asking.specs.Moves.{Moves, WithWords, Waits}
+use Rattle.unobeyed.specs.declared.Admission.{Admission}
+use Rattle.unobeyed.specs.declared.Admission.the-variants.{Admitted, Refused}
+use Rattle.unobeyed.specs.Admission.{admitted, Follows}
+use Rattle.create_rules.specs.Rows.{createRows}
+use Rattle.create_rules.proofs.Laws.{create-follows}
+use Rattle.decide.specs.Decide.{Calls, Parts}
+
+-- a move by a rule, as a call's
+pub calls-by : {has one : Machine → Type 0} {cpu : ℕ} {bytes : List ℕ} {rule : CellConfig → Machine → Stepped} {of : Machine → Stepped} {mv : Move}
+    → Moves one rule mv → ((m : Machine) → has m → one (counted callCounter cpu m))
+    → ((m : Machine) → has m → rule (cellOf bytes) (counted callCounter cpu m) ≡ of (counted callCounter cpu m)) → Calls has cpu bytes of mv
+calls-by {bytes = bytes} r f e = record { moves = λ m h. r .moves _ (cellOf bytes) (f m h) ∙ e m h; place = r .place }
+
+-- ---- Start, Set Loadable, Destroy
+
+module _ (kind : CallKind) (id : ℕ) (new : CellConfig) (m : Machine) where
+  pub target-root : id ≡ 0 → ends EINVAL m ≡ targetCall kind id new m
+  unfolding targetCall
+  target-root e = rule-holds _ _ _ (eq-eqb id rootId e)
+
+  module _ (not-root : id ≡ 0 → ⊥) where
+    pub target-absent : not (live m id) ≡ true → ends ENOENT m ≡ targetCall kind id new m
+    unfolding targetCall
+    target-absent e = rule-holds _ _ _ e ∙ rule-passed _ _ _ (ne-eqb id rootId not-root)
+
+    module _ (there : not (live m id) ≡ false) where
+      pub target-locked : (isDestroy kind && otherCellLocked id m) ≡ true → ends EPERM m ≡ targetCall kind id new m
+      unfolding targetCall
+      target-locked e = rule-holds _ _ _ e ∙ rule-passed _ _ _ there ∙ rule-passed _ _ _ (ne-eqb id rootId not-root)
+
+      pub target-asks : (isDestroy kind && otherCellLocked id m) ≡ false → ask kind id 0 new m ≡ targetCall kind id new m
+      unfolding targetCall
+      target-asks e = no-rule _ ∙ rule-passed _ _ _ e ∙ rule-passed _ _ _ there ∙ rule-passed _ _ _ (ne-eqb id rootId not-root)
+
+-- ---- Create, by its admission
+
+module _ (caller : ℕ) (bytes : List ℕ) (m : Machine) (r : Admission) (f : Follows r (createRows caller bytes m) m) where
+  pub create-refused : (a : Answer) → r ≡ Refused a → answered a m ≡ createCall caller bytes m
+  unfolding admitted
+  create-refused a q =
+      sym (ap (λ (x : Admission). admitted x (ask Create (freeId m) 0 (cellOf bytes) m) m) q) ∙ create-follows r caller bytes m f
+
+  pub create-asks : (id : ℕ) → id ≡ freeId m → r ≡ Admitted → ask Create id 0 (cellOf bytes) m ≡ createCall caller bytes m
+  unfolding admitted
+  create-asks id e q =
+      ap (λ (k : ℕ). ask Create k 0 (cellOf bytes) m) e
+      ∙ sym (ap (λ (x : Admission). admitted x (ask Create (freeId m) 0 (cellOf bytes) m) m) q) ∙ create-follows r caller bytes m f
+
+-- ---- a call by its code
+
+module _ (cpu a1 a2 : ℕ) (bytes : List ℕ) (m : Machine) where
+  pub code-disable : ask Disable rootId 0 (cellOf bytes) m ≡ callByCode cpu 0 a1 a2 bytes m
+  unfolding callByCode firstRule disableCall
+  code-disable = refl
+
+  pub code-create : createCall cpu bytes m ≡ callByCode cpu 1 a1 a2 bytes m
+  unfolding callByCode firstRule
+  code-create = refl
+
+  pub code-start : targetCall Start a1 (cellOf bytes) m ≡ callByCode cpu 2 a1 a2 bytes m
+  unfolding callByCode firstRule
+  code-start = refl
+
+  pub code-loadable : targetCall SetLoadable a1 (cellOf bytes) m ≡ callByCode cpu 3 a1 a2 bytes m
+  unfolding callByCode firstRule
+  code-loadable = refl
+
+  pub code-destroy : targetCall Destroy a1 (cellOf bytes) m ≡ callByCode cpu 4 a1 a2 bytes m
+  unfolding callByCode firstRule
+  code-destroy = refl
+
+  pub code-info : ends (getInfo a1 m) m ≡ callByCode cpu 5 a1 a2 bytes m
+  unfolding callByCode firstRule
+  code-info = refl
+
+  pub code-state : ends (getState a1 m) m ≡ callByCode cpu 6 a1 a2 bytes m
+  unfolding callByCode firstRule
+  code-state = refl
+
+  pub code-cpu : ends (cpuGetInfo cpu a1 a2 m) m ≡ callByCode cpu 7 a1 a2 bytes m
+  unfolding callByCode firstRule
+  code-cpu = refl
+
+  pub at-code : {code known : ℕ} → code ≡ known → callByCode cpu known a1 a2 bytes m ≡ callByCode cpu code a1 a2 bytes m
+  at-code e = ap (λ (k : ℕ). callByCode cpu k a1 a2 bytes m) (sym e)
+
+-- ---- the machine where a call is counted
+
+pub counted-parts : {s : SystemConfig} {pages ids root : ℕ} {room : List Cell} {table : List CommRegion} {w : Waiting} (cpu : ℕ) (m : Machine)
+    → Parts s pages ids root room table w m → Parts s pages ids root room table w (counted callCounter cpu m)
+unfolding counted withCpus
+counted-parts cpu m h = record {
+  system = h .system;
+  pool = h .pool;
+  ids = h .ids;
+  rootCpus = h .rootCpus;
+  cells = h .cells;
+  words = h .words;
+  waits = h .waits;
+}
+
+pub with-words : {s : SystemConfig} {pages ids root : ℕ} {room : List Cell} {table : List CommRegion} {w : Waiting} (m : Machine)
+    → Parts s pages ids root room table w m → WithWords ids table m
+with-words m h = record { ids = h .ids; words = h .words }
+
+pub with-waiting : {s : SystemConfig} {pages ids root : ℕ} {room : List Cell} {table : List CommRegion} {w : Waiting} (m : Machine)
+    → Parts s pages ids root room table w m → Waits ids table w m
+with-waiting m h = record { parts = with-words m h; waits = h .waits }
+
+module _ (cpu : ℕ) (m : Machine) where
+  abbrev owner : Cpu → ℕ
+  owner p = p .cell
+
+  pub counted-cell : cpu < length (m .cpus) → cpuAt (counted callCounter cpu m) cpu .cell ≡ cpuAt m cpu .cell
+  unfolding counted withCpus countExit
+  counted-cell h = ap owner (getD-set-same (m .cpus) cpu (countExit callCounter (cpuAt m cpu)) pastCpu h)
+
+module _ (cpu code a1 a2 : ℕ) (bytes : List ℕ) (m : Machine) where
+  pub unknown-code : cpuGetInfoCode < code → ends ENOSYS m ≡ call cpu code a1 a2 bytes m
+  unfolding call
+  unknown-code h = rule-holds _ _ _ (lt-ltb cpuGetInfoCode code h)
+
+  -- what the code reads of its caller's cell, it reads of the machine's
+  abbrev barred : ℕ → Bool
+  barred cell = not (eqb cell rootId) && (leb code cellDestroy || eqb code cellGetState)
+
+  module _ (known : code ≤ cpuGetInfoCode) (cell : ℕ) (own : cpuAt m cpu .cell ≡ cell) where
+    pub not-root's : barred cell ≡ true → ends EPERM m ≡ call cpu code a1 a2 bytes m
+    unfolding call
+    not-root's e = rule-holds _ _ _ (ap barred own ∙ e) ∙ rule-passed _ _ _ (le-ltb cpuGetInfoCode code known)
+
+    pub by-its-code : barred cell ≡ false → callByCode cpu code a1 a2 bytes m ≡ call cpu code a1 a2 bytes m
+    unfolding call
+    by-its-code e = no-rule _ ∙ rule-passed _ _ _ (ap barred own ∙ e) ∙ rule-passed _ _ _ (le-ltb cpuGetInfoCode code known)

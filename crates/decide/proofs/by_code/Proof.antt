@@ -1,0 +1,49 @@
+-- `decide::by_code` meets its contract: by its code. Assumes nothing.
+use mathlib.Core.Path.{_∙_}
+use Rattle.rules.specs.Effects.{counted, callCounter}
+use Rattle.decide.proofs.Calls.{calls-by, counted-parts, with-words, with-waiting, code-disable, code-create, code-start, code-loadable, code-destroy, at-code}
+use borrow.Author.Needs.{needs}
+use Rattle.decide.proofs.by_code.Statement.{statement}
+use Rattle.decide.proofs.by_code.Tie as tie
+
+returns : tie.Need-returns
+returns c =
+    let a = c .before .before .before .args in
+    calls-by (c .ask .ensures) (λ m h. with-words _ (counted-parts (a .cpu) m (h .parts)))
+    (λ m h. code-disable (a .cpu) (a .a1) (a .a2) _ _ ∙ at-code (a .cpu) (a .a1) (a .a2) _ _ (c .before .if1 .taken))
+
+returns-2 : tie.Need-returns-2
+returns-2 c =
+    let a = c .before .before .before .before .args in
+    record {
+      moves = λ m h. c .create-call .ensures .moves (counted callCounter (a .cpu) m) (counted-parts (a .cpu) m (h .parts))
+          ∙ code-create (a .cpu) (a .a1) (a .a2) _ _ ∙ at-code (a .cpu) (a .a1) (a .a2) _ _ (c .before .if2 .taken);
+      place = c .create-call .ensures .place;
+    }
+
+returns-3 : tie.Need-returns-3
+returns-3 c =
+    let a = c .before .before .before .before .before .args in
+    calls-by (c .target-call .ensures) (λ m h. with-waiting _ (counted-parts (a .cpu) m (h .parts)))
+    (λ m h. code-start (a .cpu) (a .a1) (a .a2) _ _ ∙ at-code (a .cpu) (a .a1) (a .a2) _ _ (c .before .if3 .taken))
+
+returns-4 : tie.Need-returns-4
+returns-4 c =
+    let a = c .before .before .before .before .before .before .args in
+    calls-by (c .target-call2 .ensures) (λ m h. with-waiting _ (counted-parts (a .cpu) m (h .parts)))
+    (λ m h. code-loadable (a .cpu) (a .a1) (a .a2) _ _ ∙ at-code (a .cpu) (a .a1) (a .a2) _ _ (c .before .if4 .taken))
+
+returns-5 : tie.Need-returns-5
+returns-5 c =
+    let a = c .before .before .before .before .before .before .before .args in
+    calls-by (c .target-call3 .ensures) (λ m h. with-waiting _ (counted-parts (a .cpu) m (h .parts)))
+    (λ m h. code-destroy (a .cpu) (a .a1) (a .a2) _ _ ∙ at-code (a .cpu) (a .a1) (a .a2) _ _ (c .before .if5 .taken))
+
+returns-6 : tie.Need-returns-6
+returns-6 c =
+    let a = c .before .before .before .before .before .before .before .before .args in
+    calls-by (c .stay .ensures) (λ m h. counted-parts (a .cpu) m (h .parts) .waits)
+    (λ m h. c .before .query .ensures .answers m _ (h .parts .system) (h .parts .pool) (h .parts .ids) (h .parts .words) (h .cpus))
+
+pub by-code-spec : {M : Type 1} → statement M
+by-code-spec = tie.close (tie.spec (λ c κs. search needs) returns (λ c κs. search needs) returns-2 (λ c κs. search needs) returns-3 (λ c κs. search needs) returns-4 (λ c κs. search needs) returns-5 (λ c κs. search needs) (λ c κs. search needs) returns-6)

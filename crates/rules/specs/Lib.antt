@@ -1,0 +1,14 @@
+pub mod State
+pub mod Unobeyed
+pub mod Queries
+pub mod Create
+pub mod Effects
+pub mod Asking
+pub mod Calls
+pub mod Step
+pub mod Pages
+pub mod CommRegion
+pub mod Account
+pub mod Observer
+pub mod Run
+pub mod Answers
