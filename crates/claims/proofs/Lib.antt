@@ -1,2 +1,0 @@
-pub mod ReadingRoom
-pub mod Refused

@@ -1,1 +1,0 @@
-// Claims about the definitions: no code.

@@ -1,0 +1,13 @@
+pub mod Members
+pub mod Table
+pub mod Changes
+pub mod Sound
+pub mod Created
+pub mod Destroyed
+pub mod Cells
+pub mod Settled
+pub mod Ready
+pub mod Walk
+pub mod Steps
+pub mod Runs
+pub mod Claims

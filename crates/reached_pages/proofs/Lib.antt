@@ -1,0 +1,4 @@
+pub mod Regions
+pub mod Cells
+pub mod Touch
+pub mod Claims

@@ -1,0 +1,5 @@
+pub mod AtOnce
+pub mod Kept
+pub mod WholeCall
+pub mod WhenRefused
+pub mod Sharp

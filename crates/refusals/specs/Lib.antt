@@ -1,0 +1,4 @@
+pub mod AtOnce
+pub mod WholeCall
+pub mod WhenRefused
+pub mod Wrong
