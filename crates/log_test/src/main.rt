@@ -1,170 +1,108 @@
-// Runs a script of logs and prints the answers. The file `stdin` has the script, `stdout` the
-// answers that document 01 gives.
+// Runs a script of logs and prints each line with the answer that came. The file `stdin` is the
+// script: it says what its lines are, and has the answer that document 01 gives to each. The file
+// `stdout` is the same text and a count.
 //
-// `boot HEX` starts a machine from a system record and prints boot's answer; a line that starts
-// with `#` is a remark and is printed; every other line is a line of a log and meets the machine
-// that the last one left, also one that is off. `set store CPU COUNTER VALUE` puts a raw value into
-// an exit counter, which no log could reach in a reasonable time, and is printed. Each line is answered twice, by a run over the log
-// and by the one-event entry, and a third line says so where the two differ.
-ghost use Prim.Native.Nat.{_≤_};
+// A block of the script is a log: a line `boot` or `counter` and what follows it up to the next. The
+// log is run by the loop over a log, by the entry for the shim, and in pieces (logs.rt); where one
+// of them gives another answer, a line says so and counts as wrong.
+mod logs;
+mod show;
+
 use libc::STDIN_FILENO;
-use libc::STDOUT_FILENO;
-use machine_state::Event;
 use machine_state::Machine;
-use replay_log::Replay;
+use test_support::cases;
+use test_support::cases::Tally;
+use test_support::text;
 
-// The machine as the run over the log keeps it, and as the one-event entry does.
-struct Both {
-    run: Replay,
+// How far a script has come: the machine that the last block left, the cases, and the next block.
+struct Progress {
     machine: Machine,
-}
-
-// The first `n` bytes, or all of them where there are fewer.
-fn first(s: &[u8], n: usize) -> &[u8] {
-    if n < s.len() { &s[0..n] } else { s }
-}
-
-// A machine that was never booted.
-fn not_booted() -> Both {
-    let booted = machine_state::boot(b"");
-    let machine = booted.machine;
-    Both {
-        run: replay_log::start(machine),
-        machine,
-    }
-}
-
-// The value of a HEX digit.
-fn digit(b: u8) -> u8
-    ensures { λ r. ⌜ r ≤ 15 ⌝ }
-{
-    if b'a' <= b {
-        return (b - b'a' + 10) % 16;
-    }
-    if b'0' <= b { (b - b'0') % 16 } else { 0 }
-}
-
-// Writes the bytes that HEX stands for and gives their number; none where they do not fit.
-fn decode(hex: &[u8], out: &mut [u8]) -> usize {
-    let n = hex.len() / 2;
-    if out.len() < n {
-        return 0;
-    }
-    let mut i = 0;
-    while i < n {
-        out[i] = 16 * digit(hex[2 * i]) + digit(hex[2 * i + 1]);
-        i += 1;
-    }
-    n
-}
-
-// Boots from a record in HEX, and prints boot's answer.
-fn boot(hex: &[u8], out: &mut [u8]) -> Both {
-    let mut record = [0u8; 700];
-    let n = decode(hex, &mut record);
-    let booted = machine_state::boot(first(&record, n));
-    let k = texts::put_boot(booted.code, out);
-    io::write_all(STDOUT_FILENO, first(out, k));
-    let machine = booted.machine;
-    Both {
-        run: replay_log::start(machine),
-        machine,
-    }
-}
-
-// Answers a line by the one-event entry, and says so where the answer is not the expected one.
-fn by_step(m: Machine, line: &[u8], expected: &[u8]) -> Machine {
-    let mut out = [0u8; 32];
-    let mut record = [0u8; 700];
-    let n = lines::record_of(line, &mut record);
-    let s = machine::step(m, lines::event_of(line), first(&record, n));
-    let answer = s.answer;
-    let k = texts::put_answer(answer, &mut out);
-    if !check::same(first(&out, k), expected) {
-        io::write_all(STDOUT_FILENO, b"the two ways differ\n");
-    }
-    s.machine
-}
-
-// Answers a line both ways. `log` is the line with its line feed, `line` the line without.
-fn answer(both: Both, log: &[u8], line: &[u8], out: &mut [u8]) -> Both {
-    let run = both.run;
-    let machine = both.machine;
-    let ran = replay_log::run(run, log, out);
-    io::write_all(STDOUT_FILENO, first(out, ran.written));
-    let next = by_step(machine, line, first(out, ran.written));
-    let run = ran.replay;
-    Both { run, machine: next }
-}
-
-// The machine with a raw value in a counter.
-fn with_counter(m: Machine, cpu: u64, counter: u64, value: u32) -> Machine {
-    if (64 <= cpu) | (6 <= counter) {
-        return m;
-    }
-    let mut next = m;
-    let k = fast_path::cpu_place(cpu);
-    let i = (counter % 6) as usize;
-    let mut p = m.cpus[k];
-    p.counters[i] = value;
-    next.cpus[k] = p;
-    next
-}
-
-// A line `set store CPU COUNTER VALUE`, given without `set `.
-fn set(both: Both, line: &[u8]) -> Both {
-    let machine = both.machine;
-    match lines::event_of(line) {
-        Event::Store(cpu, counter, value) => {
-            let next = with_counter(machine, cpu, counter, value);
-            Both {
-                run: replay_log::start(next),
-                machine: next,
-            }
-        }
-        _ => both,
-    }
-}
-
-// One line of the script, with its line feed in `log` and without it in `line`.
-fn script_line(both: Both, log: &[u8], line: &[u8], out: &mut [u8]) -> Both {
-    if line.len() == 0 {
-        return answer(both, log, line, out);
-    }
-    if line[0] == b'#' {
-        io::write_all(STDOUT_FILENO, log);
-        return both;
-    }
-    if line.len() < 5 {
-        return answer(both, log, line, out);
-    }
-    if check::same(&line[0..5], b"boot ") {
-        return boot(&line[5..], out);
-    }
-    if check::same(&line[0..4], b"set ") {
-        io::write_all(STDOUT_FILENO, log);
-        return set(both, &line[4..]);
-    }
-    answer(both, log, line, out)
-}
-
-// Every line of the script that has a line feed.
-fn script(s: &[u8]) {
-    let mut out = [0u8; 64];
-    let mut both = not_booted();
-    let mut at = 0;
-    while at < s.len() {
-        let end = bytes::scan::find(s, at, s.len(), b'\n');
-        if s.len() <= end {
-            return;
-        }
-        both = script_line(both, &s[at..end + 1], &s[at..end], &mut out);
-        at = end + 1;
-    }
+    tally: Tally,
+    at: usize,
 }
 
 fn main() {
     let mut s = [0u8; 262144];
     let n = io::read_full(STDIN_FILENO, &mut s);
-    script(&s[..n]);
+    cases::total(blocks(&s[..n]));
+}
+
+// Every block of the script.
+fn blocks(script: &[u8]) -> Tally {
+    let mut p = Progress {
+        machine: logs::unbooted(),
+        tally: cases::no_cases(),
+        at: 0,
+    };
+    let mut turns = script.len();
+    while 0 < turns {
+        if script.len() <= p.at {
+            return p.tally;
+        }
+        p = block(p, script);
+        turns -= 1;
+    }
+    p.tally
+}
+
+// One block: its log is written out and run every way, and each of its lines is shown.
+fn block(p: Progress, script: &[u8]) -> Progress {
+    let mut head = [0u8; 32];
+    let mut log = [0u8; 65536];
+    let m = p.machine;
+    let t = p.tally;
+    let block = show::block_at(script, p.at);
+    let begun = logs::begin(m, script, text::line_at(block, 0), &mut head);
+    let start = begun.machine;
+    let n = show::gather(script, block, &mut log);
+    let ran = run_log(
+        start,
+        t,
+        script,
+        block,
+        text::first(&head, begun.n),
+        text::first(&log, n),
+    );
+    let machine = ran.machine;
+    let tally = ran.tally;
+    Progress {
+        machine,
+        tally,
+        at: text::plus(p.at, block.len()),
+    }
+}
+
+// Runs a log every way, and shows the block that it is of.
+fn run_log(
+    start: Machine,
+    t: Tally,
+    script: &[u8],
+    block: &[u8],
+    head: &[u8],
+    log: &[u8],
+) -> Progress {
+    let mut answers = [0u8; 16384];
+    let mut stepped = [0u8; 16384];
+    let whole = logs::whole(start, log, &mut answers);
+    let k = logs::by_steps(start, log, &mut stepped);
+    let ran = text::first(&answers, whole.n);
+    let shown = show::show_all(t, script, block, head, ran, text::first(&stepped, k));
+    let machine = whole.machine;
+    Progress {
+        machine,
+        tally: again(start, shown, log, ran),
+        at: 0,
+    }
+}
+
+// The log again, cut into pieces and without its last line feed: each time the same text.
+fn again(start: Machine, t: Tally, log: &[u8], answers: &[u8]) -> Tally {
+    let one = logs::in_pieces(start, log, 1, answers);
+    let seven = logs::in_pieces(start, log, 7, answers);
+    let many = logs::in_pieces(start, log, 64, answers);
+    let ended = logs::in_pieces(start, text::but_last(log), 64, answers);
+    let t = show::cut(t, one, b"in pieces of 1 byte");
+    let t = show::cut(t, seven, b"in pieces of 7 bytes");
+    let t = show::cut(t, many, b"in pieces of 64 bytes");
+    show::cut(t, ended, b"without the last line feed")
 }

@@ -1,11 +1,10 @@
-// Asks the page questions, the communication region and the detection leaves, by a script from standard input, and prints
-// each line with its answer. The file `stdout` has the answers that document 01 gives.
+// Asks the page questions, the communication region and the detection leaves after the lines of a
+// script, and prints each line with the answer that came. The file `stdin` is the script, with the
+// answer that document 01 gives to each line; `stdout` is the same text and a count.
 //
-//   boot HEX                       starts a machine from a system record
-//   create CPU HEX                 Create with a cell record
-//   call CPU CODE A1 A2            another call
-//   store CPU WORD VALUE           a store to a communication word
-//   poll
+//   record NAME = BASE WORDS       a record (test_support, names.rt)
+//   boot @NAME                     starts a machine from a system record
+//   any line of a log              an event, answered by the entry for the shim
 //   owner PAGE                     the owner of a physical page
 //   touch PAGE                     whether root may touch it
 //   map CELL PAGE                  what a cell page is mapped to
@@ -14,34 +13,30 @@
 //   leaf NUMBER EAX EBX ECX EDX    the registers of a leaf, and those of the processor itself
 //   # ..                           a remark
 //
-// Until the first `boot` there is no started machine. Numbers are decimal, or after 0x hexadecimal.
-use detection::Leaf;
+// Until the first `boot` there is no started machine. The numbers of a question are decimal, or
+// after 0x hexadecimal. A question that cannot be read is an error, and counts as wrong.
+mod questions;
+mod show;
+
 use machine_state::Event;
 use machine_state::Machine;
-use pages::CellPage;
-use pages::PhysPage;
+use test_support::cases;
+use test_support::cases::Tally;
+use test_support::expand;
+use test_support::names;
+use test_support::text;
 
-mod show;
-mod words;
+// How far a script has come.
+struct Progress {
+    machine: Machine,
+    tally: Tally,
+    at: usize,
+}
 
 fn main() {
     let mut script = io::large_buffer();
     let n = io::read_full(0, &mut script);
-    run(&script[..n]);
-}
-
-// Every line of the script.
-fn run(s: &[u8]) {
-    let mut m = unbooted();
-    let mut at = 0;
-    while at < s.len() {
-        let end = bytes::scan::find(s, at, s.len(), b'\n');
-        m = line(m, &s[at..end]);
-        if s.len() <= end {
-            return;
-        }
-        at = end + 1;
-    }
+    cases::total(run(&script[..n]));
 }
 
 // A machine before its boot.
@@ -50,82 +45,134 @@ fn unbooted() -> Machine {
     refused.machine
 }
 
-// One line.
-fn line(m: Machine, s: &[u8]) -> Machine {
-    if s.len() < 2 {
-        return m;
-    }
-    io::write_all(1, words::head(s));
-    let next = match s[0] {
-        b'b' => boot(s),
-        b'c' => call_line(m, s),
-        b's' => store(m, s),
-        b'p' => event(m, Event::Poll, b""),
-        _ => asked(m, s),
+// Every line of the script.
+fn run(s: &[u8]) -> Tally {
+    let mut p = Progress {
+        machine: unbooted(),
+        tally: cases::no_cases(),
+        at: 0,
     };
-    io::write_all(1, b"\n");
-    next
-}
-
-// A line that changes nothing: a question, or a remark.
-fn asked(m: Machine, s: &[u8]) -> Machine {
-    let a = words::number(s, 1);
-    let b = words::number(s, 2);
-    match words::byte(s, 0) {
-        b'o' => show::owner(pages::owner_of(m, PhysPage(a))),
-        b't' => show::truth(pages::root_may_touch(m, PhysPage(a))),
-        b'm' => show::mapping(pages::mapping_of(m, a, CellPage(b))),
-        b'w' => show::word(comm_region::region_word(m, a, b)),
-        b'r' => show::byte(comm_region::region_byte(m, a, b)),
-        b'l' => leaf(s),
-        _ => (),
+    let mut turns = s.len();
+    while 0 < turns {
+        if s.len() <= p.at {
+            return p.tally;
+        }
+        p = next_line(p, s);
+        turns -= 1;
     }
-    m
+    p.tally
 }
 
-fn boot(s: &[u8]) -> Machine {
-    let r = words::record_of(s);
-    let bytes = r.bytes;
-    let booted = machine_state::boot(words::first(&bytes, r.n));
-    show::code(booted.code);
-    booted.machine
-}
-
-// `create` and `call`.
-fn call_line(m: Machine, s: &[u8]) -> Machine {
-    let cpu = words::number(s, 1);
-    if words::byte(s, 1) == b'r' {
-        let r = words::record_of(s);
-        let bytes = r.bytes;
-        return event(m, Event::Call(cpu, 1, 0, 0), words::first(&bytes, r.n));
+// One line more.
+fn next_line(p: Progress, script: &[u8]) -> Progress {
+    let m = p.machine;
+    let t = p.tally;
+    let s = text::line_at(script, p.at);
+    let done = line(m, t, script, s);
+    let machine = done.machine;
+    let tally = done.tally;
+    Progress {
+        machine,
+        tally,
+        at: text::plus(text::plus(p.at, s.len()), 1),
     }
-    let code = words::number32(s, 2);
-    let a1 = words::number(s, 3);
-    let a2 = words::number(s, 4);
-    event(m, Event::Call(cpu, code, a1, a2), b"")
 }
 
-fn store(m: Machine, s: &[u8]) -> Machine {
-    let cpu = words::number(s, 1);
-    let word = words::number(s, 2);
-    let value = words::number32(s, 3);
-    event(m, Event::Store(cpu, word, value), b"")
+// What a line leaves.
+struct Done {
+    machine: Machine,
+    tally: Tally,
 }
 
-// One event, and its answer.
-fn event(m: Machine, e: Event, record: &[u8]) -> Machine {
-    let stepped = machine::step(m, e, record);
+// One line: a remark, a record, a boot, a question or an event.
+fn line(m: Machine, t: Tally, script: &[u8], s: &[u8]) -> Done {
+    if (s.len() == 0) | text::starts(s, b"#") {
+        cases::remark(s);
+        return Done {
+            machine: m,
+            tally: t,
+        };
+    }
+    if text::starts(s, b"record ") {
+        let tally = cases::record_line(t, script, s);
+        return Done { machine: m, tally };
+    }
+    if text::starts(s, b"boot @") {
+        return boot(t, script, s);
+    }
+    if questions::is_question(s) {
+        let tally = question(m, t, s);
+        return Done { machine: m, tally };
+    }
+    event(m, t, script, s)
+}
+
+// A boot, which is an error where the record cannot be read.
+fn boot(t: Tally, script: &[u8], s: &[u8]) -> Done {
+    let mut out = [0u8; 32];
+    let asked = cases::asked(s);
+    let named = names::record_named(script, text::rest(text::word(asked, 1), 1));
+    let r = named.record;
+    let b = r.b;
+    let booted = machine_state::boot(text::first(&b, r.n));
+    let machine = booted.machine;
+    let n = texts::put_boot(booted.code, &mut out);
+    let answer = text::but_last(text::first(&out, n));
+    let tally = shown(t, s, answer, named.ok, b"this record cannot be read");
+    Done { machine, tally }
+}
+
+// A case with its answer, or the error.
+fn shown(t: Tally, s: &[u8], answer: &[u8], ok: bool, why: &[u8]) -> Tally {
+    if ok {
+        cases::answered(t, s, answer)
+    } else {
+        cases::unread(t, s, why)
+    }
+}
+
+// A question, which changes nothing.
+fn question(m: Machine, t: Tally, s: &[u8]) -> Tally {
+    let mut out = [0u8; 128];
+    let n = questions::answer_to(m, cases::asked(s), &mut out);
+    let answer = text::first(&out, n);
+    shown(
+        t,
+        s,
+        answer,
+        0 < answer.len(),
+        b"this question cannot be read",
+    )
+}
+
+// Whether a line of a log says an event.
+fn is_event(e: Event) -> bool {
+    match e {
+        Event::Malformed => false,
+        _ => true,
+    }
+}
+
+// An event, by the entry for the shim. A malformed line is an error here.
+fn event(m: Machine, t: Tally, script: &[u8], s: &[u8]) -> Done {
+    let mut line = [0u8; 1400];
+    let mut record = [0u8; 700];
+    let mut out = [0u8; 32];
+    let e = expand::expand(script, cases::asked(s), &mut line);
+    let bytes = text::first(&line, e.n);
+    let read = lines::read_line(bytes, &mut record);
+    let said = read.event;
+    let stepped = manager::step(m, said, text::first(&record, read.len));
     let answer = stepped.answer;
-    show::answer(answer);
-    stepped.machine
-}
-
-fn leaf(s: &[u8]) {
-    let passed = Leaf {
-        eax: words::number32(s, 2),
-        ebx: words::number32(s, 3),
-        ecx: words::number32(s, 4),
-        edx: words::number32(s, 5),
-    };
-    show::leaf(detection::cpuid(words::number32(s, 1), passed));
+    let machine = stepped.machine;
+    let k = texts::put_answer(answer, &mut out);
+    let told = text::but_last(text::first(&out, k));
+    let tally = shown(
+        t,
+        s,
+        told,
+        e.ok & is_event(said),
+        b"no such word, or not its numbers",
+    );
+    Done { machine, tally }
 }

