@@ -1,34 +1,34 @@
 #!/usr/bin/env python3
-"""Times the replay program on four generated logs, each beside a twin of the same length in which every line is malformed.
+"""Times the replay program on generated logs, each beside its malformed twin: a log of the same line lengths in which every line is malformed.
 
-    rt check replay && python3 bench/replay.py [LINES]
+    rt check replay && python3 bench/replay.py [--lines N] [--live N] [--regions N]
 
-Prints, from one run on one machine, the time of each log as a multiple of its twin's (the least of several runs of each, taken in turn).
+Every answer to a log and to its twin is compared with what document 01 gives before anything is timed. Prints, from one run on one machine, the
+time of each log as a multiple of its twin's: the least of five runs of each, taken in turn.
 """
+import argparse
 import os
 import subprocess
 import sys
 import tempfile
 import time
 
+import logs
+
 ROOT = os.path.dirname(os.path.dirname(os.path.abspath(__file__)))
 REPLAY = os.path.join(ROOT, 'target', 'bin', 'replay')
-SYSTEM = os.path.join(ROOT, 'crates', 'replay', 'data', 'system.tss')
-TUESDAY = os.path.join(ROOT, 'crates', 'replay', 'stdin')
-RUNS = 7
-
-
-def logs(lines):
-    """Name, lines before the log's own, and the lines that it repeats. `search` is cell 1, with CPUs 2 and 3."""
-    with open(TUESDAY) as f:
-        create = f.readline().rstrip('\n')
-    started = [create, 'call 0 2 1 0']
-    return [
-        ('queries', started, ['call 0 5 4 0', 'call 0 6 1 0', 'call 1 7 0 1000', 'call 2 5 1 0', 'call 0 5 0 0', 'call 3 7 3 1005'], lines),
-        ('stores', started, ['store 2 1 3', 'store 3 0 7', 'store 2 2 1', 'store 2 2 0'], lines),
-        ('polls', started + ['call 0 3 1 0'], ['poll'], lines),
-        ('creates with destroys', [], [create, 'call 0 4 1 0'], lines),
-    ]
+RUNS = 5
+KINDS = [
+    ('queries', logs.queries, 2),
+    ('stores', logs.stores, 2),
+    ('exits', logs.exits, 2),
+    ('faults, with starts', logs.faults, None),
+    ('polls, idle', logs.idle_polls, 2),
+    ('polls, waiting and not heard', logs.waiting_polls, 2),
+    ('polls, heard every few dozen', logs.heard_polls, 2),
+    ('creates with destroys', logs.creates, 6),
+    ('starts with set-loadables', logs.starts, 4),
+]
 
 
 def write(path, lines):
@@ -36,26 +36,58 @@ def write(path, lines):
         f.write('\n'.join(lines) + '\n')
 
 
-def seconds(folder, log):
-    with open(os.path.join(folder, log)) as stdin, open(os.devnull, 'w') as stdout:
-        begin = time.perf_counter()
+def run(folder, log, stdout):
+    with open(os.path.join(folder, log)) as stdin:
         subprocess.run([REPLAY], cwd=folder, stdin=stdin, stdout=stdout, check=True)
-        return time.perf_counter() - begin
+
+
+def check(folder, log, answers):
+    """Compares the program's answers with those expected, and stops at the first that differs."""
+    path = os.path.join(folder, 'answers')
+    with open(path, 'w') as f:
+        run(folder, log, f)
+    with open(path) as f:
+        given = f.read().split('\n')
+    wanted = ['boot 0'] + answers + ['']
+    if given != wanted:
+        at = next((i for i, (a, b) in enumerate(zip(given, wanted)) if a != b), min(len(given), len(wanted)))
+        sys.exit('%s, line %d: %r where %r is expected' % (log, at, given[at:at + 1], wanted[at:at + 1]))
+
+
+def seconds(folder, log):
+    begin = time.perf_counter()
+    run(folder, log, subprocess.DEVNULL)
+    return time.perf_counter() - begin
+
+
+def multiple(folder, kind, options):
+    """The log's time as a multiple of its twin's, after both have been checked."""
+    log = logs.made(kind, options.lines, options.live, options.regions)
+    write(os.path.join(folder, 'log'), log.lines)
+    write(os.path.join(folder, 'twin'), ['x' + line[1:] for line in log.lines])
+    check(folder, 'log', log.answers)
+    check(folder, 'twin', ['bad'] * len(log.lines))
+    times = [(seconds(folder, 'log'), seconds(folder, 'twin')) for _ in range(RUNS)]
+    return min(t for t, _ in times) / min(t for _, t in times)
+
+
+def arguments():
+    parser = argparse.ArgumentParser(description='Times the replay program against malformed twins of its logs.')
+    parser.add_argument('--lines', type=int, default=300000, help='lines of a log (300000; a day has 1000000)')
+    parser.add_argument('--live', type=int, default=1, choices=range(1, 16), metavar='1..15', help='live cells (1)')
+    parser.add_argument('--regions', type=int, default=3, help='regions of a cell, its communication region among them (3)')
+    return parser.parse_args()
 
 
 def main():
-    lines = int(sys.argv[1]) if len(sys.argv) > 1 else 1000000
+    options = arguments()
     with tempfile.TemporaryDirectory() as folder:
-        with open(SYSTEM, 'rb') as f, open(os.path.join(folder, 'system.tss'), 'wb') as g:
-            g.write(f.read())
-        print('| log of %d lines | multiple of its malformed twin |' % lines)
-        print('|---|---|')
-        for name, before, repeated, count in logs(lines):
-            log = before + [repeated[i % len(repeated)] for i in range(count)]
-            write(os.path.join(folder, 'log'), log)
-            write(os.path.join(folder, 'twin'), ['x' + line[1:] for line in log])
-            times = [(seconds(folder, 'log'), seconds(folder, 'twin')) for _ in range(RUNS)]
-            print('| %s | %.1f |' % (name, min(t for t, _ in times) / min(t for _, t in times)))
+        with open(os.path.join(folder, 'system.tss'), 'wb') as f:
+            f.write(logs.system_record())
+        print('| log of %d lines, %d live, %d regions | multiple of its malformed twin | goal |' % (options.lines, options.live, options.regions))
+        print('|---|---|---|', flush=True)
+        for name, kind, goal in KINDS:
+            print('| %s | %.2f | %s |' % (name, multiple(folder, kind, options), 'at most %d' % goal if goal else '-'), flush=True)
 
 
 if __name__ == '__main__':
