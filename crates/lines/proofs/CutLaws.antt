@@ -7,7 +7,7 @@ use native.Mathlib.Nat.{sub-self, le-refl, le-trans}
 use lib.ListN.{length, take, drop}
 use Rattle.machine_state.specs.declared.Event.{Event}
 use Rattle.machine_state.specs.declared.Event.the-variants.{Malformed}
-use Rattle.lines.specs.Lines.{maxLine, wordsOf, isCreate, eventOf}
+use Rattle.lines.specs.Lines.{maxLine, lineWords, isCreate, eventOf}
 use Rattle.lines.specs.Reading.{hexWord, Three, ending, Cuts}
 use Rattle.lines.specs.declared.ThreeWords.{ThreeWords}
 use Rattle.lines.specs.declared.Cut.{Cut}
@@ -17,7 +17,7 @@ use Rattle.lines.proofs.RecordLaws.{hex-said, no-hex}
 abbrev plainly : Event → Cut
 plainly e = record { event = e; hex = 0; «hex_end» = 0 }
 
-pub cut-plain : (line : List ℕ) (ws : List (List ℕ)) (e : Event) (r : Cut) → length line ≤ maxLine → wordsOf line ≡ ws → [] ≡ hexWord ws → e ≡ eventOf ws
+pub cut-plain : (line : List ℕ) (ws : List (List ℕ)) (e : Event) (r : Cut) → length line ≤ maxLine → lineWords line ≡ ws → [] ≡ hexWord ws → e ≡ eventOf ws
     → r ≡ plainly e → Cuts line r
 cut-plain line ws e r short q h f g =
     subst (λ (x : Cut). Cuts line x) (sym g)
@@ -46,7 +46,7 @@ module _ (line w a : List ℕ) (at end : ℕ) where
   end-end true h l = l
   end-end false h l = le-trans h l
 
-  pub cut-three : (t : ThreeWords) (stop : ℕ) → length line ≤ maxLine → wordsOf line ≡ w ∷ a ∷ third ∷ [] → Three w a third t → stop ≡ ending (t .create) at end
+  pub cut-three : (t : ThreeWords) (stop : ℕ) → length line ≤ maxLine → lineWords line ≡ w ∷ a ∷ third ∷ [] → Three w a third t → stop ≡ ending (t .create) at end
       → at ≤ end → end ≤ length line → Cuts line (record { event = t .event; hex = at; «hex_end» = stop })
   cut-three t stop short q f e h l = rw e (record {
     event = line-said line _ _ short q (f .event);

@@ -12,7 +12,7 @@ use lib.ListN.{length, take, length-take}
 use lib.Seq.{take-all}
 use Rattle.base.proofs.Tests.{le-or-lt}
 use Rattle.machine_state.specs.declared.Event.the-variants.{Malformed}
-use Rattle.lines.specs.Lines.{maxLine, space, intoFirst, wordsOf, isCreate, eventOf, recordOf, lineEvent, lineRecord}
+use Rattle.lines.specs.Lines.{maxLine, space, intoFirst, lineWords, isCreate, eventOf, recordOf, lineEvent, lineRecord}
 use Rattle.lines.specs.Reading.{hexWord, lineHex}
 use Rattle.lines.proofs.PairLaws.{length-bytes}
 use Rattle.lines.proofs.RecordLaws.{hex-record}
@@ -28,15 +28,15 @@ unfolding intoFirst
 longer b [] = omega arith
 longer b (w ∷ ws) = omega arith
 
-words-total : (s : List ℕ) → total (wordsOf s) ≤ length s
-unfolding wordsOf
+words-total : (s : List ℕ) → total (lineWords s) ≤ length s
+unfolding lineWords
 words-total [] = omega arith
 words-total (b ∷ bs) = by-test (eqb b space) (words-total bs)
   where
-    by-test : (t : Bool) → total (wordsOf bs) ≤ length bs
-        → total (elim t as (λ x. List (List ℕ)) [ true ↦ [] ∷ wordsOf bs | false ↦ intoFirst b (wordsOf bs) ]) ≤ suc (length bs)
+    by-test : (t : Bool) → total (lineWords bs) ≤ length bs
+        → total (elim t as (λ x. List (List ℕ)) [ true ↦ [] ∷ lineWords bs | false ↦ intoFirst b (lineWords bs) ]) ≤ suc (length bs)
     by-test true h = omega arith
-    by-test false h = omega (arith, longer b (wordsOf bs))
+    by-test false h = omega (arith, longer b (lineWords bs))
 
 hex-total : (ws : List (List ℕ)) → length (hexWord ws) ≤ total ws
 unfolding hexWord
@@ -55,8 +55,8 @@ unfolding lineHex
 hex-short line = by-test (leb (length line) maxLine) refl
   where
     by-test : (t : Bool) → leb (length line) maxLine ≡ t
-        → length {A = ℕ} (elim t as (λ x. List ℕ) [ true ↦ hexWord (wordsOf line) | false ↦ [] ]) ≤ 1400
-    by-test true e = omega (arith, hex-total (wordsOf line), words-total line, leb-true (length line) maxLine e)
+        → length {A = ℕ} (elim t as (λ x. List ℕ) [ true ↦ hexWord (lineWords line) | false ↦ [] ]) ≤ 1400
+    by-test true e = omega (arith, hex-total (lineWords line), words-total line, leb-true (length line) maxLine e)
     by-test false e = omega arith
 
 pub record-short : (line : List ℕ) → length (lineRecord line) ≤ 700
@@ -82,8 +82,8 @@ module _ {A : Type 0} (f : List ℕ → A) (z : A) where
 
 pub event-cut : (line : List ℕ) → lineEvent (take 1401 line) ≡ lineEvent line
 unfolding lineEvent
-event-cut line = cut (λ l. eventOf (wordsOf l)) Malformed line
+event-cut line = cut (λ l. eventOf (lineWords l)) Malformed line
 
 pub record-cut : (line : List ℕ) → lineRecord (take 1401 line) ≡ lineRecord line
 unfolding lineRecord
-record-cut line = cut (λ l. recordOf (wordsOf l)) [] line
+record-cut line = cut (λ l. recordOf (lineWords l)) [] line

@@ -15,7 +15,7 @@ use lib.Seq.{drop-cons}
 use Rattle.base.specs.Lists.{all}
 use Rattle.base.proofs.Tests.{le-or-lt, is-true, holds, and-left, and-right}
 use Rattle.lines.specs.Lines.{isDigit, valueFrom, value, isDecimal, isNumber}
-use Rattle.lines.specs.Reading.{kept, numberIf, numberOf, withDigit, withDigits}
+use Rattle.lines.specs.Reading.{valueIf, numberIf, wordNumber, withDigit, withDigits}
 use Rattle.lines.specs.declared.numbers.Number.{Number}
 
 abbrev pub none : Number
@@ -78,7 +78,7 @@ module _ (w : List ℕ) (n i : ℕ) (r : Number) (h : i < length w) (e : r ≡ w
 
   value-is : r .ok ≡ true → r .value ≡ next n (getD w i 0)
   unfolding withDigit
-  value-is f = ap (λ (x : Number). x .value) e ∙ ap (λ (t : Bool). kept t (next n (getD w i 0))) (sym ok-is ∙ f)
+  value-is f = ap (λ (x : Number). x .value) e ∙ ap (λ (t : Bool). valueIf t (next n (getD w i 0))) (sym ok-is ∙ f)
 
   both : r .ok ≡ true → T (isDigit (getD w i 0) && ltb (next n (getD w i 0)) (2 ^ 64))
   both f = holds (sym ok-is ∙ f)
@@ -104,20 +104,20 @@ digits-end w n i h l = rw (drop-of-length-le w h) (some-number _ _ (lt-ltb _ _ l
 
 -- ---- a word
 
-pub no-digits : (bits : ℕ) (w : List ℕ) → length w < 1 → none ≡ numberOf bits w
-unfolding numberOf isNumber isDecimal
+pub no-digits : (bits : ℕ) (w : List ℕ) → length w < 1 → none ≡ wordNumber bits w
+unfolding wordNumber isNumber isDecimal
 no-digits bits [] h = refl
 no-digits bits (b ∷ bs) h = absurd (not-suc-le-zero (le-of-suc-le-suc h))
 
-pub zero-first : (bits : ℕ) (w : List ℕ) → (eqb (getD w 0 0) 0x30 && ltb 1 (length w)) ≡ true → none ≡ numberOf bits w
-unfolding numberOf isNumber isDecimal
+pub zero-first : (bits : ℕ) (w : List ℕ) → (eqb (getD w 0 0) 0x30 && ltb 1 (length w)) ≡ true → none ≡ wordNumber bits w
+unfolding wordNumber isNumber isDecimal
 zero-first bits [] e = refl
 zero-first bits (b ∷ []) e = absurd (false≢true (sym (and-false (eqb b 0x30)) ∙ e))
 zero-first bits (b ∷ c ∷ bs) e =
     no-number _ _ (rw (is-true (eqb b 0x30) (and-left (eqb b 0x30) (ltb 1 (suc (suc (length bs)))) (holds e)), and-false (isDigit b)))
 
-pub all-digits : (w : List ℕ) → 1 ≤ length w → (eqb (getD w 0 0) 0x30 && ltb 1 (length w)) ≡ false → withDigits 0 w ≡ numberOf 64 w
-unfolding numberOf isNumber isDecimal withDigits all
+pub all-digits : (w : List ℕ) → 1 ≤ length w → (eqb (getD w 0 0) 0x30 && ltb 1 (length w)) ≡ false → withDigits 0 w ≡ wordNumber 64 w
+unfolding wordNumber isNumber isDecimal withDigits all
 all-digits [] h e = absurd (not-suc-le-zero h)
 all-digits (b ∷ []) h e = rw (and-true (isDigit b))
 all-digits (b ∷ c ∷ bs) h e = rw (not-zero, and-true (isDigit b))
@@ -127,7 +127,7 @@ all-digits (b ∷ c ∷ bs) h e = rw (not-zero, and-true (isDigit b))
 
 -- ---- a number of 64 bits as one of 32
 
-narrow : (d : Bool) (v : ℕ) → kept (d && ltb v (2 ^ 64)) v < 2 ^ 32 → numberIf (d && ltb v (2 ^ 64)) v ≡ numberIf (d && ltb v (2 ^ 32)) v
+narrow : (d : Bool) (v : ℕ) → valueIf (d && ltb v (2 ^ 64)) v < 2 ^ 32 → numberIf (d && ltb v (2 ^ 64)) v ≡ numberIf (d && ltb v (2 ^ 32)) v
 narrow false v h = refl
 narrow true v h = ⊎-elim large small (le-or-lt (2 ^ 32) v)
   where
@@ -143,17 +143,17 @@ narrow true v h = ⊎-elim large small (le-or-lt (2 ^ 32) v)
         middle : v < 2 ^ 64 → numberIf (ltb v (2 ^ 64)) v ≡ numberIf (ltb v (2 ^ 32)) v
         middle l = let z : v < 2 ^ 32 = rw (lt-ltb v (2 ^ 64) l) at h in absurd (lt-irrefl v (lt-of-lt-of-le z k))
 
-wide : (d : Bool) (v : ℕ) → 2 ^ 32 ≤ kept (d && ltb v (2 ^ 64)) v → none ≡ numberIf (d && ltb v (2 ^ 32)) v
+wide : (d : Bool) (v : ℕ) → 2 ^ 32 ≤ valueIf (d && ltb v (2 ^ 64)) v → none ≡ numberIf (d && ltb v (2 ^ 32)) v
 wide false v h = refl
 wide true v h = ⊎-elim (λ k. no-number _ _ (le-ltb v (2 ^ 32) k)) small (le-or-lt (2 ^ 32) v)
   where
     small : v < 2 ^ 32 → none ≡ numberIf (ltb v (2 ^ 32)) v
     small k = let z : 2 ^ 32 ≤ v = rw (lt-ltb v (2 ^ 64) (omega arith)) at h in absurd (lt-irrefl v (lt-of-lt-of-le k z))
 
-pub number-32 : (w : List ℕ) (r : Number) → r ≡ numberOf 64 w → r .value < 2 ^ 32 → r ≡ numberOf 32 w
-unfolding numberOf isNumber
+pub number-32 : (w : List ℕ) (r : Number) → r ≡ wordNumber 64 w → r .value < 2 ^ 32 → r ≡ wordNumber 32 w
+unfolding wordNumber isNumber
 number-32 w r e h = e ∙ narrow (isDecimal w) (value w) (subst (λ (x : Number). x .value < 2 ^ 32) e h)
 
-pub no-number-32 : (w : List ℕ) (r : Number) → r ≡ numberOf 64 w → 2 ^ 32 ≤ r .value → none ≡ numberOf 32 w
-unfolding numberOf isNumber
+pub no-number-32 : (w : List ℕ) (r : Number) → r ≡ wordNumber 64 w → 2 ^ 32 ≤ r .value → none ≡ wordNumber 32 w
+unfolding wordNumber isNumber
 no-number-32 w r e h = wide (isDecimal w) (value w) (subst (λ (x : Number). 2 ^ 32 ≤ x .value) e h)

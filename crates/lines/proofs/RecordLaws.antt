@@ -8,7 +8,7 @@ use lib.Dec.{leb}
 use lib.ListN.{length}
 use Rattle.base.specs.Lists.{same}
 use Rattle.base.proofs.Tests.{is-true, holds, and-right}
-use Rattle.lines.specs.Lines.{maxLine, wordsOf, isNumber, isPairs, isHex, bytesOf, wordCreate, isCreate, recordOf, lineRecord}
+use Rattle.lines.specs.Lines.{maxLine, lineWords, isNumber, isPairs, isHex, bytesOf, wordCreate, isCreate, recordOf, lineRecord}
 use Rattle.lines.specs.Reading.{hexWord, lineHex}
 
 -- ---- the HEX of a line's words
@@ -27,7 +27,7 @@ more-words w a b c ws = refl
 
 -- ---- the HEX of a line, and its record
 
-pub hex-said : (line h : List ℕ) (ws : List (List ℕ)) → length line ≤ maxLine → wordsOf line ≡ ws → h ≡ hexWord ws → h ≡ lineHex line
+pub hex-said : (line h : List ℕ) (ws : List (List ℕ)) → length line ≤ maxLine → lineWords line ≡ ws → h ≡ hexWord ws → h ≡ lineHex line
 unfolding lineHex
 hex-said line h ws l q e = e ∙ ap hexWord (sym q) ∙ rw (le-leb _ _ l, lineHex)
 
@@ -52,8 +52,8 @@ words-record (w ∷ a ∷ b ∷ c ∷ ws) = refl
 line-record : (line : List ℕ) → bytesOf (lineHex line) ≡ lineRecord line
 unfolding lineHex lineRecord bytesOf
 line-record line =
-    either-way bytesOf (leb (length line) maxLine) (hexWord (wordsOf line)) []
-    ∙ ap (λ (r : List ℕ). elim (leb (length line) maxLine) [ true ↦ r | false ↦ [] ]) (words-record (wordsOf line))
+    either-way bytesOf (leb (length line) maxLine) (hexWord (lineWords line)) []
+    ∙ ap (λ (r : List ℕ). elim (leb (length line) maxLine) [ true ↦ r | false ↦ [] ]) (words-record (lineWords line))
 
 create-pairs : (w a b : List ℕ) → isCreate w a b ≡ true → isPairs b ≡ true
 unfolding isCreate isHex
@@ -77,8 +77,8 @@ line-pairs : (line : List ℕ) → isPairs (lineHex line) ≡ true
 unfolding lineHex isPairs
 line-pairs line = by-test (leb (length line) maxLine)
   where
-    by-test : (t : Bool) → isPairs (elim t [ true ↦ hexWord (wordsOf line) | false ↦ [] ]) ≡ true
-    by-test true = words-pairs (wordsOf line)
+    by-test : (t : Bool) → isPairs (elim t [ true ↦ hexWord (lineWords line) | false ↦ [] ]) ≡ true
+    by-test true = words-pairs (lineWords line)
     by-test false = refl
 
 pub hex-pairs : (line h : List ℕ) → h ≡ lineHex line → isPairs h ≡ true

@@ -12,7 +12,7 @@ use lib.Dec.{eqb}
 use lib.ListN.{length, take, drop, getD, length-drop, drop-of-length-le}
 use lib.Seq.{drop-cons, drop-drop, take-all}
 use Rattle.base.proofs.Tests.{le-or-lt}
-use Rattle.lines.specs.Lines.{space, intoFirst, wordsOf}
+use Rattle.lines.specs.Lines.{space, intoFirst, lineWords}
 use Rattle.lines.specs.Reading.{untilSpace, wordEnd}
 
 -- one turn of the walk to the end of a word, and its end
@@ -43,36 +43,36 @@ start-le s at e q = omega arith
 pub end-le : (s : List ℕ) (at e : ℕ) → e ≡ wordEnd at s → at ≤ length s → e ≤ length s
 end-le s at e q h = omega (arith, until-le (drop at s), length-drop at s)
 
-first-word : (s : List ℕ) → untilSpace s < length s → wordsOf s ≡ take (untilSpace s) s ∷ wordsOf (drop (suc (untilSpace s)) s)
-unfolding untilSpace wordsOf intoFirst
+first-word : (s : List ℕ) → untilSpace s < length s → lineWords s ≡ take (untilSpace s) s ∷ lineWords (drop (suc (untilSpace s)) s)
+unfolding untilSpace lineWords intoFirst
 first-word [] h = absurd (not-suc-le-zero h)
 first-word (b ∷ bs) h = by-test (eqb b space) (first-word bs) h
   where
-    by-test : (t : Bool) → (untilSpace bs < length bs → wordsOf bs ≡ take (untilSpace bs) bs ∷ wordsOf (drop (suc (untilSpace bs)) bs))
+    by-test : (t : Bool) → (untilSpace bs < length bs → lineWords bs ≡ take (untilSpace bs) bs ∷ lineWords (drop (suc (untilSpace bs)) bs))
         → elim t as (λ x. ℕ) [ true ↦ 0 | false ↦ suc (untilSpace bs) ] < suc (length bs)
-        → elim t as (λ x. List (List ℕ)) [ true ↦ [] ∷ wordsOf bs | false ↦ intoFirst b (wordsOf bs) ]
+        → elim t as (λ x. List (List ℕ)) [ true ↦ [] ∷ lineWords bs | false ↦ intoFirst b (lineWords bs) ]
         ≡ take (elim t as (λ x. ℕ) [ true ↦ 0 | false ↦ suc (untilSpace bs) ]) (b ∷ bs)
-        ∷ wordsOf (drop (elim t as (λ x. ℕ) [ true ↦ 0 | false ↦ suc (untilSpace bs) ]) bs)
+        ∷ lineWords (drop (elim t as (λ x. ℕ) [ true ↦ 0 | false ↦ suc (untilSpace bs) ]) bs)
     by-test true f k = refl
     by-test false f k = rw (f (omega arith))
 
-only-word : (s : List ℕ) → length s ≤ untilSpace s → wordsOf s ≡ s ∷ []
-unfolding untilSpace wordsOf intoFirst
+only-word : (s : List ℕ) → length s ≤ untilSpace s → lineWords s ≡ s ∷ []
+unfolding untilSpace lineWords intoFirst
 only-word [] h = refl
 only-word (b ∷ bs) h = by-test (eqb b space) (only-word bs) h
   where
-    by-test : (t : Bool) → (length bs ≤ untilSpace bs → wordsOf bs ≡ bs ∷ [])
+    by-test : (t : Bool) → (length bs ≤ untilSpace bs → lineWords bs ≡ bs ∷ [])
         → suc (length bs) ≤ elim t as (λ x. ℕ) [ true ↦ 0 | false ↦ suc (untilSpace bs) ]
-        → elim t as (λ x. List (List ℕ)) [ true ↦ [] ∷ wordsOf bs | false ↦ intoFirst b (wordsOf bs) ] ≡ (b ∷ bs) ∷ []
+        → elim t as (λ x. List (List ℕ)) [ true ↦ [] ∷ lineWords bs | false ↦ intoFirst b (lineWords bs) ] ≡ (b ∷ bs) ∷ []
     by-test true f k = absurd (not-suc-le-zero k)
     by-test false f k = rw (f (omega arith))
 
 -- the word that begins at a place, with what follows, and the last word
 pub word-more : (s : List ℕ) (at e : ℕ) → e ≡ wordEnd at s → e < length s
-    → wordsOf (drop at s) ≡ take (e - at) (drop at s) ∷ wordsOf (drop (e + 1) s)
+    → lineWords (drop at s) ≡ take (e - at) (drop at s) ∷ lineWords (drop (e + 1) s)
 word-more s at e q h =
     first-word (drop at s) (omega (arith, length-drop at s))
-    ∙ (λ i. take (len i) (drop at s) ∷ wordsOf (rest i))
+    ∙ (λ i. take (len i) (drop at s) ∷ lineWords (rest i))
   where
     len : untilSpace (drop at s) ≡ e - at
     len = omega arith
@@ -83,7 +83,7 @@ word-more s at e q h =
         next : at + suc (untilSpace (drop at s)) ≡ e + 1
         next = omega arith
 
-pub word-last : (s : List ℕ) (at e : ℕ) → e ≡ wordEnd at s → length s ≤ e → wordsOf (drop at s) ≡ take (e - at) (drop at s) ∷ []
+pub word-last : (s : List ℕ) (at e : ℕ) → e ≡ wordEnd at s → length s ≤ e → lineWords (drop at s) ≡ take (e - at) (drop at s) ∷ []
 word-last s at e q h =
     only-word (drop at s) (omega (arith, length-drop at s))
     ∙ ap (λ (w : List ℕ). w ∷ []) (sym (take-all (e - at) (drop at s) (omega (arith, length-drop at s))))
@@ -93,13 +93,13 @@ pub then : {A : Type 0} {x : A} {xs ys zs : List A} → xs ≡ x ∷ ys → ys �
 then {x = x} p q = p ∙ ap (λ l. x ∷ l) q
 
 -- a line has a word
-pub some-word : (s : List ℕ) → (w : List ℕ) × (ws : List (List ℕ)) × (wordsOf s ≡ w ∷ ws)
-unfolding wordsOf intoFirst
+pub some-word : (s : List ℕ) → (w : List ℕ) × (ws : List (List ℕ)) × (lineWords s ≡ w ∷ ws)
+unfolding lineWords intoFirst
 some-word [] = ([], [], refl)
 some-word (b ∷ bs) = by-test (eqb b space) (some-word bs)
   where
-    by-test : (t : Bool) → (w : List ℕ) × (ws : List (List ℕ)) × (wordsOf bs ≡ w ∷ ws)
+    by-test : (t : Bool) → (w : List ℕ) × (ws : List (List ℕ)) × (lineWords bs ≡ w ∷ ws)
         → (w : List ℕ) × (ws : List (List ℕ))
-        × (elim t as (λ x. List (List ℕ)) [ true ↦ [] ∷ wordsOf bs | false ↦ intoFirst b (wordsOf bs) ] ≡ w ∷ ws)
-    by-test true r = ([], wordsOf bs, refl)
+        × (elim t as (λ x. List (List ℕ)) [ true ↦ [] ∷ lineWords bs | false ↦ intoFirst b (lineWords bs) ] ≡ w ∷ ws)
+    by-test true r = ([], lineWords bs, refl)
     by-test false r = (b ∷ r .0, r .1, ap (intoFirst b) (r .2))

@@ -21,9 +21,9 @@ unfoldable pub intoFirst : ℕ → List (List ℕ) → List (List ℕ)
 intoFirst b [] = (b ∷ []) ∷ []
 intoFirst b (w ∷ ws) = (b ∷ w) ∷ ws
 
-unfoldable pub wordsOf : List ℕ → List (List ℕ)
-wordsOf [] = [] ∷ []
-wordsOf (b ∷ bs) = elim (eqb b space) [ true ↦ [] ∷ wordsOf bs | false ↦ intoFirst b (wordsOf bs) ]
+unfoldable pub lineWords : List ℕ → List (List ℕ)
+lineWords [] = [] ∷ []
+lineWords (b ∷ bs) = elim (eqb b space) [ true ↦ [] ∷ lineWords bs | false ↦ intoFirst b (lineWords bs) ]
 
 -- "Numbers are unsigned decimals .. without leading zeros"
 abbrev pub isDigit : ℕ → Bool
@@ -123,7 +123,7 @@ recordOf (w ∷ a ∷ b ∷ c ∷ ws) = []
 
 -- the event and the record of a line, without its line feed
 unfoldable pub lineEvent : List ℕ → Event
-lineEvent line = elim (leb (length line) maxLine) [ true ↦ eventOf (wordsOf line) | false ↦ Malformed ]
+lineEvent line = elim (leb (length line) maxLine) [ true ↦ eventOf (lineWords line) | false ↦ Malformed ]
 
 unfoldable pub lineRecord : List ℕ → List ℕ
-lineRecord line = elim (leb (length line) maxLine) [ true ↦ recordOf (wordsOf line) | false ↦ [] ]
+lineRecord line = elim (leb (length line) maxLine) [ true ↦ recordOf (lineWords line) | false ↦ [] ]

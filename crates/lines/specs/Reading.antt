@@ -6,7 +6,7 @@ use Prim.Native.Nat.{ℕ, suc, _+_, _-_, _*_, _^_, _≤_, min}
 use lib.Dec.{leb, ltb, eqb}
 use lib.ListN.{length, take, drop}
 use Rattle.base.specs.Lists.{all}
-use Rattle.lines.specs.Lines.{maxLine, space, wordsOf, isDigit, valueFrom, value, isNumber, isCreate, eventOf, lineEvent, lineRecord}
+use Rattle.lines.specs.Lines.{maxLine, space, lineWords, isDigit, valueFrom, value, isNumber, isCreate, eventOf, lineEvent, lineRecord}
 use Rattle.lines.specs.declared.numbers.Number.{Number}
 use Rattle.lines.specs.declared.ThreeWords.{ThreeWords}
 use Rattle.lines.specs.declared.Cut.{Cut}
@@ -21,16 +21,16 @@ untilSpace (b ∷ bs) = elim (eqb b space) [ true ↦ 0 | false ↦ suc (untilSp
 abbrev pub wordEnd : ℕ → List ℕ → ℕ
 wordEnd at s = at + untilSpace (drop at s)
 
--- a number and whether it is one, 0 where it is none
-abbrev pub kept : Bool → ℕ → ℕ
-kept ok n = elim ok [ true ↦ n | false ↦ 0 ]
+-- a number where it is one, and 0 where it is none
+abbrev pub valueIf : Bool → ℕ → ℕ
+valueIf ok n = elim ok [ true ↦ n | false ↦ 0 ]
 
 abbrev pub numberIf : Bool → ℕ → Number
-numberIf ok n = record { ok = ok; value = kept ok n }
+numberIf ok n = record { ok = ok; value = valueIf ok n }
 
 -- a word as a number of so many bits
-unfoldable pub numberOf : ℕ → List ℕ → Number
-numberOf bits w = numberIf (isNumber bits w) (value w)
+unfoldable pub wordNumber : ℕ → List ℕ → Number
+wordNumber bits w = numberIf (isNumber bits w) (value w)
 
 -- a number with one digit more
 unfoldable pub withDigit : ℕ → ℕ → Number
@@ -49,7 +49,7 @@ hexWord (w ∷ a ∷ b ∷ []) = elim (isCreate w a b) [ true ↦ b | false ↦ 
 hexWord (w ∷ a ∷ b ∷ c ∷ ws) = []
 
 unfoldable pub lineHex : List ℕ → List ℕ
-lineHex line = elim (leb (length line) maxLine) [ true ↦ hexWord (wordsOf line) | false ↦ [] ]
+lineHex line = elim (leb (length line) maxLine) [ true ↦ hexWord (lineWords line) | false ↦ [] ]
 
 -- three words: their event, and whether the third is HEX
 pub record Three (w a b : List ℕ) (r : ThreeWords) : Type 0 where

@@ -13,8 +13,8 @@ ghost use Rattle.lines.specs.Reading.{Three, Cuts, ReadsLine, ending};
 use hex::decode;
 use hex::is_hex;
 use machine_state::Event;
-use numbers::number_of;
-use numbers::number32_of;
+use numbers::word_number;
+use numbers::word32_number;
 use words::is_word;
 use words::word_end;
 
@@ -56,7 +56,7 @@ fn one_word(w: &[u8]) -> Event
 fn two_words(w: &[u8], a: &[u8]) -> Event
     ensures { λ r. ⌜ r ≡ eventOf (now (w .entry) ∷ now (a .entry) ∷ []) ⌝ }
 {
-    let cpu = number_of(a);
+    let cpu = word_number(a);
     if is_word(w, b"fault") & cpu.ok {
         Event::Fault(cpu.value)
     } else {
@@ -68,14 +68,14 @@ fn two_words(w: &[u8], a: &[u8]) -> Event
 fn three_words(w: &[u8], a: &[u8], b: &[u8]) -> ThreeWords
     ensures { λ r. ⌜ Three (now (w .entry)) (now (a .entry)) (now (b .entry)) r ⌝ }
 {
-    let cpu = number_of(a);
+    let cpu = word_number(a);
     if is_word(w, b"create") & cpu.ok & is_hex(b) {
         return ThreeWords {
             event: Event::Call(cpu.value, 1, 0, 0),
             create: true,
         };
     }
-    let kind = number_of(b);
+    let kind = word_number(b);
     if is_word(w, b"exit") & cpu.ok & kind.ok {
         ThreeWords {
             event: Event::Exit(cpu.value, kind.value),
@@ -93,9 +93,9 @@ fn three_words(w: &[u8], a: &[u8], b: &[u8]) -> ThreeWords
 fn four_words(w: &[u8], a: &[u8], b: &[u8], c: &[u8]) -> Event
     ensures { λ r. ⌜ r ≡ eventOf (now (w .entry) ∷ now (a .entry) ∷ now (b .entry) ∷ now (c .entry) ∷ []) ⌝ }
 {
-    let cpu = number_of(a);
-    let word = number_of(b);
-    let value = number32_of(c);
+    let cpu = word_number(a);
+    let word = word_number(b);
+    let value = word32_number(c);
     if is_word(w, b"store") & cpu.ok & word.ok & value.ok {
         Event::Store(cpu.value, word.value, value.value as u32)
     } else {
@@ -107,10 +107,10 @@ fn four_words(w: &[u8], a: &[u8], b: &[u8], c: &[u8]) -> Event
 fn five_words(w: &[u8], a: &[u8], b: &[u8], c: &[u8], d: &[u8]) -> Event
     ensures { λ r. ⌜ r ≡ eventOf (now (w .entry) ∷ now (a .entry) ∷ now (b .entry) ∷ now (c .entry) ∷ now (d .entry) ∷ []) ⌝ }
 {
-    let cpu = number_of(a);
-    let code = number32_of(b);
-    let arg1 = number_of(c);
-    let arg2 = number_of(d);
+    let cpu = word_number(a);
+    let code = word32_number(b);
+    let arg1 = word_number(c);
+    let arg2 = word_number(d);
     if is_word(w, b"call") & cpu.ok & code.ok & arg1.ok & arg2.ok {
         Event::Call(cpu.value, code.value as u32, arg1.value, arg2.value)
     } else {

@@ -1,7 +1,7 @@
 // Unsigned decimals without leading zeros.
 ghost use mathlib.Core.Path.{_≡_};
 ghost use Prim.Native.Nat.{_<_, _^_};
-ghost use Rattle.lines.specs.Reading.{numberOf, withDigit, withDigits};
+ghost use Rattle.lines.specs.Reading.{wordNumber, withDigit, withDigits};
 
 // A number, and whether there is one; its value is 0 where there is none.
 pub struct Number {
@@ -68,8 +68,8 @@ fn digits_of(w: &[u8]) -> Number
 }
 
 // A word as a number below 2^64.
-pub(crate) fn number_of(w: &[u8]) -> Number
-    ensures { λ r. ⌜ r ≡ numberOf 64 (now (w .entry)) ⌝ }
+pub(crate) fn word_number(w: &[u8]) -> Number
+    ensures { λ r. ⌜ r ≡ wordNumber 64 (now (w .entry)) ⌝ }
 {
     if w.len() < 1 {
         return Number {
@@ -87,11 +87,11 @@ pub(crate) fn number_of(w: &[u8]) -> Number
 }
 
 // A word as a number below 2^32.
-pub(crate) fn number32_of(w: &[u8]) -> Number
-    ensures { λ r. ⌜ r ≡ numberOf 32 (now (w .entry)) ⌝ }
+pub(crate) fn word32_number(w: &[u8]) -> Number
+    ensures { λ r. ⌜ r ≡ wordNumber 32 (now (w .entry)) ⌝ }
     ensures { λ r. ⌜ r .value < 2 ^ 32 ⌝ }
 {
-    let n = number_of(w);
+    let n = word_number(w);
     let value = n.value;
     if 0xffff_ffff < value {
         return Number {

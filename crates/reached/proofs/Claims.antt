@@ -26,7 +26,7 @@ use Rattle.rules.specs.Step.{step}
 use Rattle.rules.proofs.Ids.{Found, None, first-from, first-same}
 use Rattle.history.specs.History.{History, hasCell, recordBrought}
 use Rattle.reached.specs.Kept.{kept, waitedFor}
-use Rattle.reached.specs.Owners.{names, ownerBy, cpusOf, OneOwner, OneOwnerAlways}
+use Rattle.reached.specs.Owners.{names, cpuOwnerIn, cpusOf, OneOwner, OneOwnerAlways}
 use Rattle.reached.specs.Pool.{costs, PoolFigure, PoolFigureAlways}
 use Rattle.reached.specs.LiveCells.{LiveCells, LiveCellsAlways}
 use Rattle.reached.proofs.Members.{and-parts, and-both, clash, chosen, passed}
@@ -83,11 +83,11 @@ module _ (boot : SystemConfig) (h : History) (m : Machine) (a : Agrees boot h m)
 
   -- it is a cell that names the CPU, or root where none does
   data Owner (cpu : ℕ) : Type 0 where
-    cell : (id : ℕ) → ownerBy h cpu ≡ id → names h cpu id ≡ true → Owner cpu
-    root : ownerBy h cpu ≡ 0 → ((i : ℕ) → IsCell t i → Names (kept m i) cpu → ⊥) → Owner cpu
+    cell : (id : ℕ) → cpuOwnerIn h cpu ≡ id → names h cpu id ≡ true → Owner cpu
+    root : cpuOwnerIn h cpu ≡ 0 → ((i : ℕ) → IsCell t i → Names (kept m i) cpu → ⊥) → Owner cpu
 
   owner : (cpu : ℕ) → Owner cpu
-  unfolding ownerBy orRoot
+  unfolding cpuOwnerIn orRoot
   owner cpu = go (first-from (names h cpu) 1 15)
     where
       go : Found (names h cpu) 1 15 (first (names h cpu) cellIds) ⊎ (None (names h cpu) 1 15 × (first (names h cpu) cellIds ≡ noId)) → Owner cpu
@@ -109,15 +109,15 @@ module _ (boot : SystemConfig) (h : History) (m : Machine) (a : Agrees boot h m)
   of-root : (cpu : ℕ) → Started cpu → ((i : ℕ) → IsCell t i → Names (kept m i) cpu → ⊥) → t .rootHas cpu ≡ true
   of-root cpu b none = s .root-rest cpu (boot-set cpu ∙ b) none
 
-  says : (cpu : ℕ) → Started cpu → cpuAt m cpu .cell ≡ ownerBy h cpu
+  says : (cpu : ℕ) → Started cpu → cpuAt m cpu .cell ≡ cpuOwnerIn h cpu
   says cpu b = go (owner cpu)
     where
-      go : Owner cpu → cpuAt m cpu .cell ≡ ownerBy h cpu
+      go : Owner cpu → cpuAt m cpu .cell ≡ cpuOwnerIn h cpu
       go (cell id e n) = s .cell-owns cpu id (named cpu id n .0) (named cpu id n .1) ∙ sym e
       go (root e none) = s .root-owns cpu (of-root cpu b none) ∙ sym e
 
-  read : (cpu : ℕ) → cpuOwner m cpu ≡ ownerBy h cpu
-  unfolding cpuOwner ownerBy namedBy names
+  read : (cpu : ℕ) → cpuOwner m cpu ≡ cpuOwnerIn h cpu
+  unfolding cpuOwner cpuOwnerIn namedBy names
   read cpu = ap orRoot (first-same (namedBy m cpu) (names h cpu) 1 15 same)
     where
       same : (id : ℕ) → 1 ≤ id → namedBy m cpu id ≡ names h cpu id
@@ -134,38 +134,38 @@ module _ (boot : SystemConfig) (h : History) (m : Machine) (a : Agrees boot h m)
 
   -- ---- each cell's set
 
-  root-set : (cpu : ℕ) → member cpu (m .«root_cpus») ≡ (member cpu (boot .cpus) && eqb (ownerBy h cpu) 0)
+  root-set : (cpu : ℕ) → member cpu (m .«root_cpus») ≡ (member cpu (boot .cpus) && eqb (cpuOwnerIn h cpu) 0)
   root-set cpu = equal-tests _ _ (λ x. holds (there (is-true _ x))) (λ x. holds (back (and-parts (member cpu (boot .cpus)) _ (is-true _ x)) (owner cpu)))
     where
-      there : t .rootHas cpu ≡ true → (member cpu (boot .cpus) && eqb (ownerBy h cpu) 0) ≡ true
+      there : t .rootHas cpu ≡ true → (member cpu (boot .cpus) && eqb (cpuOwnerIn h cpu) 0) ≡ true
       there r =
           let b : Started cpu = sym (boot-set cpu) ∙ s .root-started cpu r in
           and-both b (ap (λ (n : ℕ). eqb n 0) (sym (says cpu b) ∙ s .root-owns cpu r))
 
-      back : Started cpu × (eqb (ownerBy h cpu) 0 ≡ true) → Owner cpu → t .rootHas cpu ≡ true
-      back e (cell id q n) = absurd (named cpu id n .0 .other (sym q ∙ eqb→eq (ownerBy h cpu) 0 (holds (e .1))))
+      back : Started cpu × (eqb (cpuOwnerIn h cpu) 0 ≡ true) → Owner cpu → t .rootHas cpu ≡ true
+      back e (cell id q n) = absurd (named cpu id n .0 .other (sym q ∙ eqb→eq (cpuOwnerIn h cpu) 0 (holds (e .1))))
       back e (root q none) = of-root cpu (e .0) none
 
-  cell-set : (id cpu : ℕ) → IsCell t id → member cpu (cellAt m id .cpus) ≡ (member cpu (boot .cpus) && eqb (ownerBy h cpu) id)
+  cell-set : (id cpu : ℕ) → IsCell t id → member cpu (cellAt m id .cpus) ≡ (member cpu (boot .cpus) && eqb (cpuOwnerIn h cpu) id)
   cell-set id cpu c = equal-tests _ _ (λ x. holds (there (is-true _ x))) (λ x. holds (back (and-parts (member cpu (boot .cpus)) _ (is-true _ x)) (owner cpu)))
     where
-      there : Names (kept m id) cpu → (member cpu (boot .cpus) && eqb (ownerBy h cpu) id) ≡ true
+      there : Names (kept m id) cpu → (member cpu (boot .cpus) && eqb (cpuOwnerIn h cpu) id) ≡ true
       there n =
           let b : Started cpu = sym (boot-set cpu) ∙ subset-member _ _ cpu (s .valid id c .started) n in
           and-both b (ap (λ (x : ℕ). eqb x id) (sym (says cpu b) ∙ s .cell-owns cpu id c n) ∙ equal id)
 
-      back : Started cpu × (eqb (ownerBy h cpu) id ≡ true) → Owner cpu → Names (kept m id) cpu
-      back e (cell i q n) = subst (λ (x : ℕ). Names (kept m x) cpu) (sym q ∙ eqb→eq (ownerBy h cpu) id (holds (e .1))) (named cpu i n .1)
-      back e (root q none) = absurd (c .other (sym (eqb→eq (ownerBy h cpu) id (holds (e .1))) ∙ q))
+      back : Started cpu × (eqb (cpuOwnerIn h cpu) id ≡ true) → Owner cpu → Names (kept m id) cpu
+      back e (cell i q n) = subst (λ (x : ℕ). Names (kept m x) cpu) (sym q ∙ eqb→eq (cpuOwnerIn h cpu) id (holds (e .1))) (named cpu i n .1)
+      back e (root q none) = absurd (c .other (sym (eqb→eq (cpuOwnerIn h cpu) id (holds (e .1))) ∙ q))
 
-  sets : (id cpu : ℕ) → live m id ≡ true → member cpu (cpusOf m id) ≡ (member cpu (boot .cpus) && eqb (ownerBy h cpu) id)
+  sets : (id cpu : ℕ) → live m id ≡ true → member cpu (cpusOf m id) ≡ (member cpu (boot .cpus) && eqb (cpuOwnerIn h cpu) id)
   unfolding cpusOf
   sets id cpu l = go (eqb id 0) refl
     where
-      go : (b : Bool) → eqb id 0 ≡ b → member cpu (cpusOf m id) ≡ (member cpu (boot .cpus) && eqb (ownerBy h cpu) id)
+      go : (b : Bool) → eqb id 0 ≡ b → member cpu (cpusOf m id) ≡ (member cpu (boot .cpus) && eqb (cpuOwnerIn h cpu) id)
       go true e =
           ap (member cpu) (chosen _ _ e) ∙ root-set cpu
-          ∙ ap (λ (n : ℕ). member cpu (boot .cpus) && eqb (ownerBy h cpu) n) (sym (eqb→eq id 0 (holds e)))
+          ∙ ap (λ (n : ℕ). member cpu (boot .cpus) && eqb (cpuOwnerIn h cpu) n) (sym (eqb→eq id 0 (holds e)))
       go false e = ap (member cpu) (passed _ _ e) ∙ cell-set id cpu (record { other = λ q. fails e (eq→eqb id 0 q); lives = l })
 
   one-owner : OneOwner boot h m

@@ -16,8 +16,8 @@ unfoldable pub names : History → ℕ → ℕ → Bool
 names h cpu id = hasCell id (h .cells) && member cpu (recordBrought id (h .cells) .cpus)
 
 -- "the one non-root cell whose record names it, or root where none does"
-unfoldable pub ownerBy : History → ℕ → ℕ
-ownerBy h cpu = orRoot (first (names h cpu) cellIds)
+unfoldable pub cpuOwnerIn : History → ℕ → ℕ
+cpuOwnerIn h cpu = orRoot (first (names h cpu) cellIds)
 
 -- the machine's set of a cell's CPUs, root's included
 unfoldable pub cpusOf : Machine → ℕ → ℕ
@@ -27,10 +27,10 @@ pub record OneOwner (boot : SystemConfig) (h : History) (m : Machine) : Type 0 w
   -- no two cells' records name one CPU
   pub one : (cpu i j : ℕ) → names h cpu i ≡ true → names h cpu j ≡ true → i ≡ j
   -- the cell that a started CPU says it is in is its owner, and so is the one that the rules read from the tables
-  pub says : (cpu : ℕ) → member cpu (boot .cpus) ≡ true → cpuAt m cpu .cell ≡ ownerBy h cpu
-  pub read : (cpu : ℕ) → cpuOwner m cpu ≡ ownerBy h cpu
+  pub says : (cpu : ℕ) → member cpu (boot .cpus) ≡ true → cpuAt m cpu .cell ≡ cpuOwnerIn h cpu
+  pub read : (cpu : ℕ) → cpuOwner m cpu ≡ cpuOwnerIn h cpu
   -- a cell's set, root's included, has exactly the started CPUs that it owns, and none outside the boot set
-  pub sets : (id cpu : ℕ) → live m id ≡ true → member cpu (cpusOf m id) ≡ (member cpu (boot .cpus) && eqb (ownerBy h cpu) id)
+  pub sets : (id cpu : ℕ) → live m id ≡ true → member cpu (cpusOf m id) ≡ (member cpu (boot .cpus) && eqb (cpuOwnerIn h cpu) id)
   -- and is the one that the record brought
   pub brought : (id : ℕ) → hasCell id (h .cells) ≡ true → cellAt m id .cpus ≡ recordBrought id (h .cells) .cpus
 

@@ -19,11 +19,11 @@ use Rattle.machine_state.specs.declared.Mapping.the-variants.{Page}
 use Rattle.machine_state.specs.declared.Power.the-variants.{Disabled}
 use Rattle.rules.specs.Run.{Manager, Line, startOf, after}
 use Rattle.history.specs.History.{hasCell, recordBrought, history}
-use Rattle.reading_room.specs.ReadingRoom.{box, search, call, create}
+use Rattle.reading_room.specs.ReadingRoom.{box, search, logCall, logCreate}
 use Rattle.refusals.specs.Wrong.{doesNothing, answersZero}
 use Rattle.refusals.specs.Wrong as Refused
 use Rattle.reached.specs.Kept.{kept}
-use Rattle.reached.specs.Owners.{names, ownerBy, cpusOf, OneOwnerAlways}
+use Rattle.reached.specs.Owners.{names, cpuOwnerIn, cpusOf, OneOwnerAlways}
 use Rattle.reached.specs.Owners as Owners
 use Rattle.reached.specs.Pool.{costs, PoolFigureAlways}
 use Rattle.reached.specs.Pool as Pool
@@ -64,7 +64,7 @@ rootHas : Manager → List Line → ℕ → Bool
 rootHas manager lines cpu = member cpu (cpusOf (after manager (startOf box) lines) 0)
 
 owedToRoot : Manager → List Line → ℕ → Bool
-owedToRoot manager lines cpu = member cpu (systemOf box .cpus) && eqb (ownerBy (history manager (startOf box) lines) cpu) 0
+owedToRoot manager lines cpu = member cpu (systemOf box .cpus) && eqb (cpuOwnerIn (history manager (startOf box) lines) cpu) 0
 
 figure : Manager → List Line → ℕ
 figure manager lines = after manager (startOf box) lines .«pool_used»
@@ -81,30 +81,30 @@ isCreated manager lines id = eqb id 0 || hasCell id (history manager (startOf bo
 -- ---- runs
 
 once : List Line
-once = create 0 search ∷ []
+once = logCreate 0 search ∷ []
 
 twice : List Line
-twice = create 0 search ∷ create 0 search ∷ []
+twice = logCreate 0 search ∷ logCreate 0 search ∷ []
 
 gone : List Line
-gone = create 0 search ∷ call 0 4 1 0 ∷ []
+gone = logCreate 0 search ∷ logCall 0 4 1 0 ∷ []
 
 off : List Line
-off = create 0 search ∷ call 0 0 0 0 ∷ []
+off = logCreate 0 search ∷ logCall 0 0 0 0 ∷ []
 
 asked : List Line
-asked = create 0 search ∷ call 0 2 1 0 ∷ call 0 4 1 0 ∷ []
+asked = logCreate 0 search ∷ logCall 0 2 1 0 ∷ logCall 0 4 1 0 ∷ []
 
 -- a cell with a page of `search`, and one with a page of the hypervisor
 meeting : List Line
-meeting = create 0 search ∷ create 0 (passiveCell 0x61 2 0x3a000000 7) ∷ []
+meeting = logCreate 0 search ∷ logCreate 0 (passiveCell 0x61 2 0x3a000000 7) ∷ []
 
 -- one with a CPU of `search`
 named : List Line
-named = create 0 search ∷ create 0 (passiveCell 0x61 4 0x10000000 7) ∷ []
+named = logCreate 0 search ∷ logCreate 0 (passiveCell 0x61 4 0x10000000 7) ∷ []
 
 inside : List Line
-inside = create 0 (passiveCell 0x61 2 0x3f000000 7) ∷ []
+inside = logCreate 0 (passiveCell 0x61 2 0x3f000000 7) ∷ []
 
 record Runs : Type 0 where
   accepted : bootAnswer box ≡ pos 0
@@ -135,7 +135,7 @@ record Runs : Type 0 where
   touches-it : mayTouch 1 (page 0x3f000) (after ignoresHypervisor (startOf box) inside) ≡ true
 
 runs : Runs
-unfolding Lists.all Lists.any Lists.pairwise Lists.from Lists.same Rules.firstRule CpuSet.member CpuSet.numberOf CpuSet.subset CpuSet.meets CpuSet.isEmpty CpuSet.union CpuSet.without CpuSet.below CpuSet.countBelow CpuSet.count Fields.littleEndian Fields.field Fields.zeros Fields.leading Fields.isName Fields.padded Regions.regionOf Regions.noRegion Regions.wholePages Regions.placed Regions.flagsOk Regions.commOk Regions.overlap Regions.inside Regions.overlapVirt Regions.overlapPhys Regions.apart Regions.clearOf Regions.insidePhys Tables.regionAt Tables.regionsOf Tables.tableOf SystemRecord.systemOf SystemRecord.systemForm SystemRecord.bootRegionOk SystemRecord.systemValid SystemRecord.outOfRange SystemRecord.overdrawn SystemRecord.bootAnswer SystemRecord.readSystem CellRecord.cellOf CellRecord.cellForm CellRecord.cellRegionOk CellRecord.cellValid CellRecord.cellAnswer CellRecord.readCell Machine.freshCpu Machine.noComm Machine.noCell Machine.firstMachine Machine.powerAfter Machine.bootOf Room.region Room.box Room.cell Room.search Room.index Room.notes Run.after Run.run Room.booted Room.started Room.withNotes Room.phaseNumber State.first State.hasId State.active State.waits State.withWaiting State.withPower State.withPool State.withIds State.withRootCpus State.withCell State.withComm State.withCpus State.answered Unobeyed.isOn Unobeyed.storeDenied Unobeyed.unobeyed Queries.getInfo Queries.getState Queries.cpuGetInfo Create.otherCellLocked Create.invalid Create.nameInUse Create.conflict Create.conflicts Create.regionInUse Create.busy Create.freeId Create.noRoom Effects.bump Effects.countExit Effects.counted Effects.storeWord Effects.stored Effects.failCpu Effects.allFailed Effects.cellFailed Effects.faulted Effects.changeIn Effects.changeCpus Effects.cpusChanged Effects.startCpu Effects.stopCpu Effects.addId Effects.dropId Effects.newCell Effects.newComm Effects.cellCreated Effects.withPhase Effects.inPhase Effects.clearWords Effects.cellStarted Effects.cellLoadable Effects.cellDestroyed Effects.allDestroyed Effects.disabled Effects.effect Asking.mayBeMessaged Asking.nextToMessage Asking.asks Asking.tells Asking.isDestroy Asking.message Asking.waitFor Asking.finished Asking.endCode Asking.tell Asking.carryOut Asking.noneToAsk Asking.ask Asking.isHeard Asking.consents Asking.hear Asking.pollCell Asking.poll Calls.disableCall Calls.createCall Calls.targetCall Calls.callByCode Calls.call Step.obeyed Step.step CommRegion.bytes History.hasCell History.recordBrought History.cellsBut History.smallestFree History.cellsAfter History.hasCome History.come History.answeredBy History.afterCall History.afterTelling History.afterPoll History.seen Observer.kindOfCode Observer.targetOf Answers.isUnobeyed Answers.isNegative Answers.isWait Pages.hasPage Pages.hasPhys Pages.hasBooted Pages.hypervisorHas Pages.owns Pages.shares Pages.bootHas Pages.ownerOf Pages.isLoading Pages.loads Pages.openToRoot Pages.rootMayTouch Pages.cellMayTouch Pages.mayTouch Pages.hasVirt Pages.regionFor Pages.physOf Pages.accessOf Pages.mappedBy Pages.cellMapping Pages.mappingOf State.orRoot Owners.names Owners.ownerBy Owners.cpusOf Pool.costs History.historyFrom Wrong.atCode Wrong.keepsRootCpus Wrong.losesRecord Wrong.keepsPool Wrong.makesUpPool Wrong.destroysFirst Wrong.saysRefused Wrong.isBusy Wrong.goesOn Wrong.ignoresRegions Wrong.ignoresCpus Wrong.halfAPage Wrong.misplaced Wrong.misplaces Wrong.keepsPoolAtDisable Wrong.withSystem Wrong.elsewhere Wrong.ignoresHypervisor Refused.onCall Refused.doesNothing Refused.answersZero Shown.passiveCell rootHas owedToRoot figure owedFigure isLive isCreated once twice gone off asked meeting named inside
+unfolding Lists.all Lists.any Lists.pairwise Lists.from Lists.same Rules.firstRule CpuSet.member CpuSet.numberOf CpuSet.subset CpuSet.meets CpuSet.isEmpty CpuSet.union CpuSet.without CpuSet.below CpuSet.countBelow CpuSet.count Fields.littleEndian Fields.field Fields.zeros Fields.leading Fields.isName Fields.padded Regions.regionOf Regions.noRegion Regions.wholePages Regions.placed Regions.flagsOk Regions.commOk Regions.overlap Regions.inside Regions.overlapVirt Regions.overlapPhys Regions.apart Regions.clearOf Regions.insidePhys Tables.regionAt Tables.regionsOf Tables.tableOf SystemRecord.systemOf SystemRecord.systemForm SystemRecord.bootRegionOk SystemRecord.systemValid SystemRecord.outOfRange SystemRecord.overdrawn SystemRecord.bootAnswer SystemRecord.readSystem CellRecord.cellOf CellRecord.cellForm CellRecord.cellRegionOk CellRecord.cellValid CellRecord.cellAnswer CellRecord.readCell Machine.freshCpu Machine.noComm Machine.noCell Machine.firstMachine Machine.powerAfter Machine.bootOf Room.region Room.box Room.cell Room.search Room.index Room.notes Run.after Run.run Room.booted Room.started Room.withNotes Room.phaseNumber State.first State.hasId State.active State.waits State.withWaiting State.withPower State.withPool State.withIds State.withRootCpus State.withCell State.withComm State.withCpus State.answered Unobeyed.isOn Unobeyed.storeDenied Unobeyed.unobeyed Queries.getInfo Queries.getState Queries.cpuGetInfo Create.otherCellLocked Create.invalid Create.nameInUse Create.conflict Create.conflicts Create.regionInUse Create.busy Create.freeId Create.noRoom Effects.bump Effects.countExit Effects.counted Effects.storeWord Effects.stored Effects.failCpu Effects.allFailed Effects.cellFailed Effects.faulted Effects.changeIn Effects.changeCpus Effects.cpusChanged Effects.startCpu Effects.stopCpu Effects.addId Effects.dropId Effects.newCell Effects.newComm Effects.cellCreated Effects.withPhase Effects.inPhase Effects.clearWords Effects.cellStarted Effects.cellLoadable Effects.cellDestroyed Effects.allDestroyed Effects.disabled Effects.effect Asking.mayBeMessaged Asking.nextToMessage Asking.asks Asking.tells Asking.isDestroy Asking.message Asking.waitFor Asking.finished Asking.endCode Asking.tell Asking.carryOut Asking.noneToAsk Asking.ask Asking.isHeard Asking.consents Asking.hear Asking.pollCell Asking.poll Calls.disableCall Calls.createCall Calls.targetCall Calls.callByCode Calls.call Step.obeyed Step.step CommRegion.bytes History.hasCell History.recordBrought History.cellsBut History.smallestFree History.cellsAfter History.hasCome History.come History.answeredBy History.afterCall History.afterTelling History.afterPoll History.seen Observer.kindOfCode Observer.targetOf Answers.isUnobeyed Answers.isNegative Answers.isWait Pages.hasPage Pages.hasPhys Pages.hasBooted Pages.hypervisorHas Pages.owns Pages.shares Pages.bootHas Pages.ownerOf Pages.isLoading Pages.loads Pages.openToRoot Pages.rootMayTouch Pages.cellMayTouch Pages.mayTouch Pages.hasVirt Pages.regionFor Pages.physOf Pages.accessOf Pages.mappedBy Pages.cellMapping Pages.mappingOf State.orRoot Owners.names Owners.cpuOwnerIn Owners.cpusOf Pool.costs History.historyFrom Wrong.atCode Wrong.keepsRootCpus Wrong.losesRecord Wrong.keepsPool Wrong.makesUpPool Wrong.destroysFirst Wrong.saysRefused Wrong.answersBusy Wrong.createsWhere Wrong.ignoresRegions Wrong.ignoresCpus Wrong.halfAPage Wrong.misplaced Wrong.misplaces Wrong.keepsPoolAtDisable Wrong.withSystem Wrong.elsewhere Wrong.ignoresHypervisor Refused.onCall Refused.doesNothing Refused.answersZero Shown.passiveCell rootHas owedToRoot figure owedFigure isLive isCreated once twice gone off asked meeting named inside
 runs = record {
   accepted = refl;
   root-has = refl;

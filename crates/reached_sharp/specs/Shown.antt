@@ -10,7 +10,7 @@ use Rattle.machine_state.specs.declared.Machine.{Machine}
 use Rattle.rules.specs.Pages.{ownerOf, loads, mayTouch}
 use Rattle.rules.specs.Step.{step}
 use Rattle.rules.specs.Run.{Line, after, Accepted, startOf}
-use Rattle.reading_room.specs.ReadingRoom.{box, search, region, cell, call, create}
+use Rattle.reading_room.specs.ReadingRoom.{box, search, region, cell, logCall, logCreate}
 
 -- a passive cell of one CPU set, with one region: read, write and shared (35), read, write and execute (7)
 unfoldable pub passiveCell : ℕ → ℕ → ℕ → ℕ → List ℕ
@@ -21,11 +21,11 @@ page n = record { 0 = n }
 
 -- two cells with one shared page
 abbrev pub sharing : List Line
-sharing = create 0 (passiveCell 0x61 2 0x10000000 35) ∷ create 0 (passiveCell 0x62 4 0x10000000 35) ∷ []
+sharing = logCreate 0 (passiveCell 0x61 2 0x10000000 35) ∷ logCreate 0 (passiveCell 0x62 4 0x10000000 35) ∷ []
 
 -- `search` created and set loadable
 abbrev pub loadingSearch : List Line
-loadingSearch = create 0 search ∷ call 0 3 1 0 ∷ []
+loadingSearch = logCreate 0 search ∷ logCall 0 3 1 0 ∷ []
 
 abbrev pub on : List Line → Machine
 on lines = after step (startOf box) lines

@@ -65,39 +65,39 @@ unfoldable pub saysRefused : Manager
 saysRefused e bytes m = answered (Code EPERM) (step e bytes m .machine)
 
 -- -16
-unfoldable pub isBusy : Answer → Bool
-isBusy (Code (pos n)) = false
-isBusy (Code (negsuc n)) = eqb n 15
-isBusy (Wait cell) = false
-isBusy Done = false
-isBusy Off = false
-isBusy Bad = false
-isBusy Stopped = false
-isBusy Held = false
-isBusy Denied = false
-isBusy Idle = false
+unfoldable pub answersBusy : Answer → Bool
+answersBusy (Code (pos n)) = false
+answersBusy (Code (negsuc n)) = eqb n 15
+answersBusy (Wait cell) = false
+answersBusy Done = false
+answersBusy Off = false
+answersBusy Bad = false
+answersBusy Stopped = false
+answersBusy Held = false
+answersBusy Denied = false
+answersBusy Idle = false
 
 -- Create goes on where -16 refuses it and a test passes on its caller and its record
-unfoldable pub goesOn : (ℕ → CellConfig → Machine → Bool) → Manager
-goesOn test (Call cpu code a1 a2) bytes m =
+unfoldable pub createsWhere : (ℕ → CellConfig → Machine → Bool) → Manager
+createsWhere test (Call cpu code a1 a2) bytes m =
     let s = step (Call cpu code a1 a2) bytes m in
-    elim (isBusy (s .answer) && test cpu (cellOf bytes) m) [
+    elim (answersBusy (s .answer) && test cpu (cellOf bytes) m) [
       | true ↦ ask Create (freeId (s .machine)) 0 (cellOf bytes) (s .machine)
       | false ↦ s
     ]
-goesOn test (Store cpu word value) bytes m = step (Store cpu word value) bytes m
-goesOn test (Fault cpu) bytes m = step (Fault cpu) bytes m
-goesOn test (Exit cpu kind) bytes m = step (Exit cpu kind) bytes m
-goesOn test Poll bytes m = step Poll bytes m
-goesOn test Malformed bytes m = step Malformed bytes m
+createsWhere test (Store cpu word value) bytes m = step (Store cpu word value) bytes m
+createsWhere test (Fault cpu) bytes m = step (Fault cpu) bytes m
+createsWhere test (Exit cpu kind) bytes m = step (Exit cpu kind) bytes m
+createsWhere test Poll bytes m = step Poll bytes m
+createsWhere test Malformed bytes m = step Malformed bytes m
 
 -- Create does not look at regions that meet another cell's
 unfoldable pub ignoresRegions : Manager
-ignoresRegions = goesOn (λ caller new m. not (member caller (new .cpus)) && subset (new .cpus) (m .«root_cpus»))
+ignoresRegions = createsWhere (λ caller new m. not (member caller (new .cpus)) && subset (new .cpus) (m .«root_cpus»))
 
 -- Create does not look at whose the CPUs are
 unfoldable pub ignoresCpus : Manager
-ignoresCpus = goesOn (λ caller new m. not (member caller (new .cpus)) && not (regionInUse (cellRegions new) m))
+ignoresCpus = createsWhere (λ caller new m. not (member caller (new .cpus)) && not (regionInUse (cellRegions new) m))
 
 -- Create puts the first region half a page further
 unfoldable pub halfAPage : MemRegion → MemRegion

@@ -9,7 +9,7 @@ use Rattle.base.specs.Lists.{all, same}
 use Rattle.base.specs.Rules.{EPERM, ENOENT, EINVAL, EBUSY, EEXIST}
 use Rattle.machine_state.specs.declared.Cpu.{Cpu}
 use Rattle.machine_state.specs.declared.Event.{Event}
-use Rattle.machine_state.specs.declared.Event.the-variants.{Call, Store, Poll}
+use Rattle.machine_state.specs.declared.Event.the-variants.{Call, Store, Fault, Poll}
 use Rattle.machine_state.specs.declared.Answer.{Answer}
 use Rattle.machine_state.specs.declared.Answer.the-variants.{Code, Wait, Done}
 use Rattle.machine_state.specs.declared.Machine.{Machine}
@@ -62,28 +62,31 @@ unfoldable pub notes : List ℕ
 notes = cell 0 (0x6e ∷ 0x6f ∷ 0x74 ∷ 0x65 ∷ 0x73 ∷ []) 2 1 (region 0 0 4096 11)
 
 -- lines of a log
-abbrev pub call : ℕ → ℕ → ℕ → ℕ → Line
-call cpu code a1 a2 = record { event = Call cpu code a1 a2; bytes = [] }
+abbrev pub logCall : ℕ → ℕ → ℕ → ℕ → Line
+logCall cpu code a1 a2 = record { event = Call cpu code a1 a2; bytes = [] }
 
-abbrev pub create : ℕ → List ℕ → Line
-create cpu bytes = record { event = Call cpu 1 0 0; bytes = bytes }
+abbrev pub logCreate : ℕ → List ℕ → Line
+logCreate cpu bytes = record { event = Call cpu 1 0 0; bytes = bytes }
 
-abbrev pub store : ℕ → ℕ → ℕ → Line
-store cpu word value = record { event = Store cpu word value; bytes = [] }
+abbrev pub logStore : ℕ → ℕ → ℕ → Line
+logStore cpu word value = record { event = Store cpu word value; bytes = [] }
 
-abbrev pub poll : Line
-poll = record { event = Poll; bytes = [] }
+abbrev pub logFault : ℕ → Line
+logFault cpu = record { event = Fault cpu; bytes = [] }
+
+abbrev pub logPoll : Line
+logPoll = record { event = Poll; bytes = [] }
 
 -- "The first line starts after boot, the others with `search` started and no other cell"
 unfoldable pub booted : Machine
 booted = bootOf box .machine
 
 unfoldable pub started : Machine
-started = after step booted (create 0 search ∷ call 0 2 1 0 ∷ [])
+started = after step booted (logCreate 0 search ∷ logCall 0 2 1 0 ∷ [])
 
 -- `notes` beside it, started
 unfoldable pub withNotes : Machine
-withNotes = after step started (create 0 notes ∷ store 2 1 4 ∷ poll ∷ call 0 2 2 0 ∷ [])
+withNotes = after step started (logCreate 0 notes ∷ logStore 2 1 4 ∷ logPoll ∷ logCall 0 2 2 0 ∷ [])
 
 -- a raw counter: the total of CPU 1 at 0x80000000
 unfoldable pub halfRound : Machine
@@ -179,46 +182,46 @@ rowHolds r = logHolds (r .from) (r .log) && all (claimHolds (r .from) (after ste
 unfoldable pub starred : List Row
 starred =
     -- "Create on CPU 0: 1; pool used 14; Get State 1 gives 1"
-    record { from = booted; log = (create 0 search ▷ Code (pos 1)) ∷ (call 0 6 1 0 ▷ Code (pos 1)) ∷ []; claims = PoolUsed 14 ∷ [] }
+    record { from = booted; log = (logCreate 0 search ▷ Code (pos 1)) ∷ (logCall 0 6 1 0 ▷ Code (pos 1)) ∷ []; claims = PoolUsed 14 ∷ [] }
     -- "Page 0x3a000: cell 1, root can't touch"
     ∷ record { from = started; log = []; claims = OwnedBy 0x3a000 1 ∷ RootTouches 0x3a000 false ∷ [] }
     -- "After Set Loadable root can, owner still 1"
     ∷ record {
       from = started;
-      log = (call 0 3 1 0 ▷ Wait 1) ∷ (store 2 1 3 ▷ Done) ∷ (poll ▷ Code (pos 0)) ∷ [];
+      log = (logCall 0 3 1 0 ▷ Wait 1) ∷ (logStore 2 1 3 ▷ Done) ∷ (logPoll ▷ Code (pos 0)) ∷ [];
       claims = OwnedBy 0x3a000 1 ∷ RootTouches 0x3a000 true ∷ [];
     }
     -- "after Start it can't"
     ∷ record {
       from = started;
-      log = (call 0 3 1 0 ▷ Wait 1) ∷ (store 2 1 3 ▷ Done) ∷ (poll ▷ Code (pos 0)) ∷ (call 0 2 1 0 ▷ Code (pos 0)) ∷ [];
+      log = (logCall 0 3 1 0 ▷ Wait 1) ∷ (logStore 2 1 3 ▷ Done) ∷ (logPoll ▷ Code (pos 0)) ∷ (logCall 0 2 1 0 ▷ Code (pos 0)) ∷ [];
       claims = OwnedBy 0x3a000 1 ∷ RootTouches 0x3a000 false ∷ [];
     }
     -- "The same record again: -17, not -16"
-    ∷ record { from = started; log = (create 0 search ▷ Code EEXIST) ∷ []; claims = TableKept ∷ [] }
+    ∷ record { from = started; log = (logCreate 0 search ▷ Code EEXIST) ∷ []; claims = TableKept ∷ [] }
     -- "`index` .. from CPU 1: -16. From CPU 0 with `search` in state 1: -1"
-    ∷ record { from = started; log = (create 1 index ▷ Code EBUSY) ∷ []; claims = TableKept ∷ [] }
-    ∷ record { from = started; log = (store 2 2 1 ▷ Done) ∷ (create 0 index ▷ Code EPERM) ∷ []; claims = TableKept ∷ [] }
+    ∷ record { from = started; log = (logCreate 1 index ▷ Code EBUSY) ∷ []; claims = TableKept ∷ [] }
+    ∷ record { from = started; log = (logStore 2 2 1 ▷ Done) ∷ (logCreate 0 index ▷ Code EPERM) ∷ []; claims = TableKept ∷ [] }
     -- "In state 0: wait 1, message 2; poll: wait 1; from = 4, poll: code 2"
-    ∷ record { from = started; log = (create 0 index ▷ Wait 1) ∷ []; claims = MessageTo 1 2 ∷ [] }
-    ∷ record { from = started; log = (create 0 index ▷ Wait 1) ∷ (poll ▷ Wait 1) ∷ (store 2 1 4 ▷ Done) ∷ (poll ▷ Code (pos 2)) ∷ []; claims = [] }
+    ∷ record { from = started; log = (logCreate 0 index ▷ Wait 1) ∷ []; claims = MessageTo 1 2 ∷ [] }
+    ∷ record { from = started; log = (logCreate 0 index ▷ Wait 1) ∷ (logPoll ▷ Wait 1) ∷ (logStore 2 1 4 ▷ Done) ∷ (logPoll ▷ Code (pos 2)) ∷ []; claims = [] }
     -- "Destroy 1, from = 2: -1. From = 3: 0"
-    ∷ record { from = started; log = (call 0 4 1 0 ▷ Wait 1) ∷ (store 2 1 2 ▷ Done) ∷ (poll ▷ Code EPERM) ∷ []; claims = TableKept ∷ [] }
-    ∷ record { from = started; log = (call 0 4 1 0 ▷ Wait 1) ∷ (store 2 1 3 ▷ Done) ∷ (poll ▷ Code (pos 0)) ∷ []; claims = PoolUsed 10 ∷ [] }
+    ∷ record { from = started; log = (logCall 0 4 1 0 ▷ Wait 1) ∷ (logStore 2 1 2 ▷ Done) ∷ (logPoll ▷ Code EPERM) ∷ []; claims = TableKept ∷ [] }
+    ∷ record { from = started; log = (logCall 0 4 1 0 ▷ Wait 1) ∷ (logStore 2 1 3 ▷ Done) ∷ (logPoll ▷ Code (pos 0)) ∷ []; claims = PoolUsed 10 ∷ [] }
     -- "`notes` .. started, Destroy 1 waiting, `notes` stores state 1, then `search` from = 3: -1, table kept"
     ∷ record {
       from = withNotes;
-      log = (call 0 4 1 0 ▷ Wait 1) ∷ (store 1 2 1 ▷ Done) ∷ (store 2 1 3 ▷ Done) ∷ (poll ▷ Code EPERM) ∷ [];
+      log = (logCall 0 4 1 0 ▷ Wait 1) ∷ (logStore 1 2 1 ▷ Done) ∷ (logStore 2 1 3 ▷ Done) ∷ (logPoll ▷ Code EPERM) ∷ [];
       claims = TableKept ∷ [];
     }
     -- "Destroy 0: -22; 9: -2; 4294967297: -2"
     ∷ record {
       from = started;
-      log = (call 0 4 0 0 ▷ Code EINVAL) ∷ (call 0 4 9 0 ▷ Code ENOENT) ∷ (call 0 4 4294967297 0 ▷ Code ENOENT) ∷ [];
+      log = (logCall 0 4 0 0 ▷ Code EINVAL) ∷ (logCall 0 4 9 0 ▷ Code ENOENT) ∷ (logCall 0 4 4294967297 0 ▷ Code ENOENT) ∷ [];
       claims = TableKept ∷ [];
     }
     -- "State 7: Get State gives -22, and the cell is still asked"
-    ∷ record { from = started; log = (store 2 2 7 ▷ Done) ∷ (call 0 6 1 0 ▷ Code EINVAL) ∷ (call 0 4 1 0 ▷ Wait 1) ∷ []; claims = MessageTo 1 1 ∷ [] }
+    ∷ record { from = started; log = (logStore 2 2 7 ▷ Done) ∷ (logCall 0 6 1 0 ▷ Code EINVAL) ∷ (logCall 0 4 1 0 ▷ Wait 1) ∷ []; claims = MessageTo 1 1 ∷ [] }
     -- "Raw counter 0x80000000 reads 0"
-    ∷ record { from = halfRound; log = (call 0 7 1 1000 ▷ Code (pos 0)) ∷ []; claims = [] }
+    ∷ record { from = halfRound; log = (logCall 0 7 1 1000 ▷ Code (pos 0)) ∷ []; claims = [] }
     ∷ []

@@ -40,7 +40,7 @@ use Rattle.refusals.specs.AtOnce as AtOnce
 use Rattle.refusals.specs.WholeCall as WholeCall
 use Rattle.refusals.specs.WhenRefused as WhenRefused
 use Rattle.refusals.specs.Wrong as Wrong
-use Rattle.reading_room.specs.ReadingRoom.{phaseNumber, booted, started, withNotes, store, poll}
+use Rattle.reading_room.specs.ReadingRoom.{phaseNumber, booted, started, withNotes, logStore, logPoll}
 use Rattle.rules.specs.Unobeyed.{isObeyed}
 use Rattle.rules.specs.Answers.{isNegative, isUnobeyed, isWait}
 use Rattle.refusals.specs.AtOnce.{refusalLeaves, UnobeyedKeeps, RefusedAtOnce}
@@ -75,18 +75,18 @@ answerOf manager e m = manager e [] m .answer
 
 -- `search` denies
 abbrev denies : List Line
-denies = store 2 1 2 ∷ poll ∷ []
+denies = logStore 2 1 2 ∷ logPoll ∷ []
 
 -- `search` consents, and `notes` denies
 onlySearch : List Line
-onlySearch = store 2 1 3 ∷ poll ∷ store 1 1 2 ∷ poll ∷ []
+onlySearch = logStore 2 1 3 ∷ logPoll ∷ logStore 1 1 2 ∷ logPoll ∷ []
 
 -- Disable: its own polls, the first of them, and the cell that it waited for
 disables : List Happened
 disables = ownPolls (run stopsHeard (left stopsHeard (Call 0 0 0 0) withNotes) onlySearch)
 
 firstPoll : Happened
-firstPoll = getD disables 0 (happens step poll booted)
+firstPoll = getD disables 0 (happens step logPoll booted)
 
 waitedFor : ℕ
 waitedFor = nowWaited rootId (answerOf stopsHeard (Call 0 0 0 0) withNotes)
@@ -127,7 +127,7 @@ record Runs : Type 0 where
   code-5 : (isObeyed (Call 0 5 4 0) booted && refuses (Call 0 5 4 0) [] booted) ≡ false
 
 runs : Runs
-unfolding Lists.all Lists.any Lists.pairwise Lists.from Lists.same Rules.firstRule CpuSet.member CpuSet.numberOf CpuSet.subset CpuSet.meets CpuSet.isEmpty CpuSet.union CpuSet.without CpuSet.below CpuSet.countBelow CpuSet.count Fields.littleEndian Fields.field Fields.zeros Fields.leading Fields.isName Fields.padded Regions.regionOf Regions.noRegion Regions.wholePages Regions.placed Regions.flagsOk Regions.commOk Regions.overlap Regions.inside Regions.overlapVirt Regions.overlapPhys Regions.apart Regions.clearOf Regions.insidePhys Tables.regionAt Tables.regionsOf Tables.tableOf SystemRecord.systemOf SystemRecord.systemForm SystemRecord.bootRegionOk SystemRecord.systemValid SystemRecord.outOfRange SystemRecord.overdrawn SystemRecord.bootAnswer SystemRecord.readSystem CellRecord.cellOf CellRecord.cellForm CellRecord.cellRegionOk CellRecord.cellValid CellRecord.cellAnswer CellRecord.readCell Machine.freshCpu Machine.noComm Machine.noCell Machine.firstMachine Machine.powerAfter Machine.bootOf Room.region Room.box Room.cell Room.search Room.index Room.notes Run.after Run.run Room.booted Room.started Room.withNotes Room.phaseNumber State.first State.hasId State.active State.waits State.withWaiting State.withPower State.withPool State.withIds State.withRootCpus State.withCell State.withComm State.withCpus State.answered Unobeyed.isOn Unobeyed.storeDenied Unobeyed.unobeyed Queries.getInfo Queries.getState Queries.cpuGetInfo Create.otherCellLocked Create.invalid Create.nameInUse Create.conflict Create.conflicts Create.regionInUse Create.busy Create.freeId Create.noRoom Effects.bump Effects.countExit Effects.counted Effects.storeWord Effects.stored Effects.failCpu Effects.allFailed Effects.cellFailed Effects.faulted Effects.changeIn Effects.changeCpus Effects.cpusChanged Effects.startCpu Effects.stopCpu Effects.addId Effects.dropId Effects.newCell Effects.newComm Effects.cellCreated Effects.withPhase Effects.inPhase Effects.clearWords Effects.cellStarted Effects.cellLoadable Effects.cellDestroyed Effects.allDestroyed Effects.disabled Effects.effect Asking.mayBeMessaged Asking.nextToMessage Asking.asks Asking.tells Asking.isDestroy Asking.message Asking.waitFor Asking.finished Asking.endCode Asking.tell Asking.carryOut Asking.noneToAsk Asking.ask Asking.isHeard Asking.consents Asking.hear Asking.pollCell Asking.poll Calls.disableCall Calls.createCall Calls.targetCall Calls.callByCode Calls.call Step.obeyed Step.step CommRegion.bytes total to-cell phase isStopped left onlySearch disables firstPoll waitedFor WholeCall.nowWaited answerOf aside Answers.isNegative Answers.isUnobeyed AtOnce.refusalLeaves Run.isPoll Answers.isCode Answers.isWait WholeCall.ownPolls WholeCall.setAside Unobeyed.isObeyed WhenRefused.callRefused WhenRefused.waitingRefused WhenRefused.refuses Wrong.onCall Wrong.countsUnobeyed Wrong.countsNoRefusal Wrong.messaged Wrong.leavesMessage Wrong.loadsFirst Wrong.messagesAnother Wrong.stopsHeard Wrong.doesNothing Wrong.answersZero Wrong.refusesAll
+unfolding Lists.all Lists.any Lists.pairwise Lists.from Lists.same Rules.firstRule CpuSet.member CpuSet.numberOf CpuSet.subset CpuSet.meets CpuSet.isEmpty CpuSet.union CpuSet.without CpuSet.below CpuSet.countBelow CpuSet.count Fields.littleEndian Fields.field Fields.zeros Fields.leading Fields.isName Fields.padded Regions.regionOf Regions.noRegion Regions.wholePages Regions.placed Regions.flagsOk Regions.commOk Regions.overlap Regions.inside Regions.overlapVirt Regions.overlapPhys Regions.apart Regions.clearOf Regions.insidePhys Tables.regionAt Tables.regionsOf Tables.tableOf SystemRecord.systemOf SystemRecord.systemForm SystemRecord.bootRegionOk SystemRecord.systemValid SystemRecord.outOfRange SystemRecord.overdrawn SystemRecord.bootAnswer SystemRecord.readSystem CellRecord.cellOf CellRecord.cellForm CellRecord.cellRegionOk CellRecord.cellValid CellRecord.cellAnswer CellRecord.readCell Machine.freshCpu Machine.noComm Machine.noCell Machine.firstMachine Machine.powerAfter Machine.bootOf Room.region Room.box Room.cell Room.search Room.index Room.notes Run.after Run.run Room.booted Room.started Room.withNotes Room.phaseNumber State.first State.hasId State.active State.waits State.withWaiting State.withPower State.withPool State.withIds State.withRootCpus State.withCell State.withComm State.withCpus State.answered Unobeyed.isOn Unobeyed.storeDenied Unobeyed.unobeyed Queries.getInfo Queries.getState Queries.cpuGetInfo Create.otherCellLocked Create.invalid Create.nameInUse Create.conflict Create.conflicts Create.regionInUse Create.busy Create.freeId Create.noRoom Effects.bump Effects.countExit Effects.counted Effects.storeWord Effects.stored Effects.failCpu Effects.allFailed Effects.cellFailed Effects.faulted Effects.changeIn Effects.changeCpus Effects.cpusChanged Effects.startCpu Effects.stopCpu Effects.addId Effects.dropId Effects.newCell Effects.newComm Effects.cellCreated Effects.withPhase Effects.inPhase Effects.clearWords Effects.cellStarted Effects.cellLoadable Effects.cellDestroyed Effects.allDestroyed Effects.disabled Effects.effect Asking.mayBeMessaged Asking.nextToMessage Asking.asks Asking.tells Asking.isDestroy Asking.message Asking.waitFor Asking.finished Asking.endCode Asking.tell Asking.carryOut Asking.noneToAsk Asking.ask Asking.isHeard Asking.consents Asking.hear Asking.pollCell Asking.poll Calls.disableCall Calls.createCall Calls.targetCall Calls.callByCode Calls.call Step.obeyed Step.step CommRegion.bytes total to-cell phase isStopped left onlySearch disables firstPoll waitedFor WholeCall.nowWaited answerOf aside Answers.isNegative Answers.isUnobeyed AtOnce.refusalLeaves Run.isPoll Answers.isCode Answers.isWait WholeCall.ownPolls WholeCall.setAside Unobeyed.isObeyed WhenRefused.callRefused WhenRefused.waitingRefused WhenRefused.refuses Wrong.onCall Wrong.countsUnobeyed Wrong.countsNoRefusal Wrong.withRequest Wrong.leavesMessage Wrong.loadsFirst Wrong.messagesAnother Wrong.stopsHeard Wrong.doesNothing Wrong.answersZero Wrong.refusesAll
 runs = record {
   outside = refl;
   outside-counted = refl;
@@ -190,7 +190,7 @@ pub stops-heard : RefusedKeeps stopsHeard → ⊥
 unfolding left answerOf firstPoll disables waitedFor
 stops-heard claim =
     unequal (isStopped 2) _ _ (runs .stops-cpu)
-    (first-kept waitedFor disables (happens step poll booted) (runs .stops-polls)
+    (first-kept waitedFor disables (happens step logPoll booted) (runs .stops-polls)
     (claim 0 0 0 0 [] withNotes onlySearch (runs .stops-waits) (runs .stops-denied) .polled))
 
 pub does-nothing : NegativeIsRefusal doesNothing → ⊥

@@ -47,11 +47,11 @@ unfoldable pub countsNoRefusal : Manager
 countsNoRefusal = onCall refusedCall (λ cpu code a1 before after. before)
 
 -- a call refused at once leaves a message behind, to its target
-unfoldable pub messaged : ℕ → Machine → Machine
-messaged id m = withComm id (message shutdownRequest (commAt m id)) m
+unfoldable pub withRequest : ℕ → Machine → Machine
+withRequest id m = withComm id (message shutdownRequest (commAt m id)) m
 
 unfoldable pub leavesMessage : Manager
-leavesMessage = onCall refusedCall (λ cpu code a1 before after. messaged a1 after)
+leavesMessage = onCall refusedCall (λ cpu code a1 before after. withRequest a1 after)
 
 -- Set Loadable opens the cell's pages at the first step, before the cell has been heard
 unfoldable pub loadsFirst : Manager
@@ -60,7 +60,7 @@ loadsFirst =
 
 -- a call that waits messages another cell, too
 unfoldable pub messagesAnother : Manager
-messagesAnother = onCall leftWaiting (λ cpu code a1 before after. messaged 2 after)
+messagesAnother = onCall leftWaiting (λ cpu code a1 before after. withRequest 2 after)
 
 -- a poll that moves on stops the CPUs of the cell that it heard, though a later cell may deny
 unfoldable pub stopsHeard : Manager

@@ -22,7 +22,7 @@ fn is_read(fd: i32, n: usize, room: usize) -> bool {
 }
 
 // Reads the system record; of a file that is missing or cannot be read, no bytes.
-fn read_system(bytes: &mut [u8]) -> usize
+fn system_bytes(bytes: &mut [u8]) -> usize
     ensures { λ r. ⌜ r ≤ length (now (bytes .exit)) ⌝ }
 {
     let fd = os::open_read(b"system.tss");
@@ -114,7 +114,7 @@ fn replay_all(from: Replay) {
 
 fn main() {
     let mut bytes = io::buffer();
-    let n = read_system(&mut bytes);
+    let n = system_bytes(&mut bytes);
     let booted = machine_state::boot(&bytes[0..n]);
     let code = booted.code;
     let machine = booted.machine;

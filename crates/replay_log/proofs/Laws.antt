@@ -25,7 +25,7 @@ use Rattle.machine_state.specs.declared.Answer.{Answer}
 use Rattle.texts.specs.Texts.{answerLine, bootLine}
 use Rattle.texts.proofs.Laws.{answer-short}
 use Rattle.replay_log.specs.Replay.{lineFeed, lastLine, linesFrom, linesOf, stepLine, answersTo, unlessNegative, replayText}
-use Rattle.replay_log.specs.Feed.{Going, ended, longer, feedByte, feed, endOf, finished, lineLength, keptBytes}
+use Rattle.replay_log.specs.Feed.{Going, ended, longer, feedByte, feed, endOf, textAtEnd, lineLength, keptBytes}
 
 -- one turn of the search for a line feed, and its two ends
 module _ (log : List ℕ) (i : ℕ) where
@@ -165,7 +165,7 @@ lines-other b bs begun q = rw (q, linesFrom)
 
 -- the text written at the end of a log, from a line that is begun: that of the lines
 text-from : (log begun : List ℕ) (m : Machine) (text : List ℕ)
-    → finished (feed log (record { machine = m; begun = take keptBytes begun; text = text })) ≡ text ++ answersTo (linesFrom begun log) m
+    → textAtEnd (feed log (record { machine = m; begun = take keptBytes begun; text = text })) ≡ text ++ answersTo (linesFrom begun log) m
 unfolding feed linesFrom lastLine answersTo endOf ended longer
 text-from [] [] m text = sym (append-nil text)
 text-from [] (x ∷ xs) m text =
@@ -178,23 +178,23 @@ text-from (b ∷ bs) begun m text = by-test (eqb b lineFeed) refl (text-from bs)
 
     by-test : (t : Bool) → eqb b lineFeed ≡ t
         → ((begun : List ℕ) (m : Machine) (text : List ℕ)
-        → finished (feed bs (record { machine = m; begun = take keptBytes begun; text = text })) ≡ text ++ answersTo (linesFrom begun bs) m)
-        → finished (feed bs (feedByte b g)) ≡ text ++ answersTo (linesFrom begun (b ∷ bs)) m
+        → textAtEnd (feed bs (record { machine = m; begun = take keptBytes begun; text = text })) ≡ text ++ answersTo (linesFrom begun bs) m)
+        → textAtEnd (feed bs (feedByte b g)) ≡ text ++ answersTo (linesFrom begun (b ∷ bs)) m
     by-test true q again =
         let s = stepLine begun m in
         let first = answerLine (s .answer) in
-        ap (λ (h : Going). finished (feed bs h)) (byte-feed b g q)
-        ∙ ap (λ (s : Stepped). finished (feed bs (record { machine = s .machine; begun = []; text = text ++ answerLine (s .answer) }))) (line-cut begun m)
+        ap (λ (h : Going). textAtEnd (feed bs h)) (byte-feed b g q)
+        ∙ ap (λ (s : Stepped). textAtEnd (feed bs (record { machine = s .machine; begun = []; text = text ++ answerLine (s .answer) }))) (line-cut begun m)
         ∙ again [] (s .machine) (text ++ first) ∙ append-assoc text first (answersTo (linesFrom [] bs) (s .machine))
         ∙ ap (λ (ls : List (List ℕ)). text ++ answersTo ls m) (sym (lines-feed b bs begun q))
     by-test false q again =
-        ap (λ (h : Going). finished (feed bs h)) (byte-other b g q)
-        ∙ ap (λ (l : List ℕ). finished (feed bs (record { machine = m; begun = l; text = text }))) (cut-twice keptBytes begun (b ∷ []))
+        ap (λ (h : Going). textAtEnd (feed bs h)) (byte-other b g q)
+        ∙ ap (λ (l : List ℕ). textAtEnd (feed bs (record { machine = m; begun = l; text = text }))) (cut-twice keptBytes begun (b ∷ []))
         ∙ again (begun ++ (b ∷ [])) m text ∙ ap (λ (ls : List (List ℕ)). text ++ answersTo ls m) (sym (lines-other b bs begun q))
 
 -- however a log is cut, the text that a run writes is that of the log's lines
 pub fed-is-replay : (log : List ℕ) (m : Machine)
-    → finished (feed log (record { machine = m; begun = []; text = [] })) ≡ answersTo (linesOf log) m
+    → textAtEnd (feed log (record { machine = m; begun = []; text = [] })) ≡ answersTo (linesOf log) m
 fed-is-replay log m = text-from log [] m []
 
 -- a run's place, in its parts
@@ -220,26 +220,26 @@ module _ (log : List ℕ) (at end : ℕ) (start : Going) (m : Machine) (begun te
       ∙ ap (λ (s : Stepped). going (s .machine) [] (text ++ answerLine (s .answer))) (sym isStep) ∙ ap (going next []) (sym isText)
 
 -- the end of a log: no line, or one more
-pub end-none : (m : Machine) (begun : List ℕ) → begun ≡ [] → finished (going m begun []) ≡ []
+pub end-none : (m : Machine) (begun : List ℕ) → begun ≡ [] → textAtEnd (going m begun []) ≡ []
 unfolding endOf
-end-none m begun e = ap (λ (b : List ℕ). finished (going m b [])) e
+end-none m begun e = ap (λ (b : List ℕ). textAtEnd (going m b [])) e
 
 pub end-some : (m : Machine) (begun : List ℕ) → 0 < length begun → (s : Stepped) → s ≡ step (lineEvent begun) (lineRecord begun) m
-    → finished (going m begun []) ≡ answerLine (s .answer)
+    → textAtEnd (going m begun []) ≡ answerLine (s .answer)
 unfolding endOf ended stepLine
 end-some m [] h s e = absurd (omega arith)
 end-some m (b ∷ bs) h s e = ap (λ (t : Stepped). answerLine (t .answer)) (sym e)
 
-pub finished-short : (m : Machine) (begun : List ℕ) → length (finished (going m begun [])) ≤ 32
+pub text-at-end-short : (m : Machine) (begun : List ℕ) → length (textAtEnd (going m begun [])) ≤ 32
 unfolding endOf ended
-finished-short m [] = omega arith
-finished-short m (b ∷ bs) = answer-short (stepLine (b ∷ bs) m .answer)
+text-at-end-short m [] = omega arith
+text-at-end-short m (b ∷ bs) = answer-short (stepLine (b ∷ bs) m .answer)
 
 -- the whole output of a replay: boot's line and, unless it is a refusal, what a run over the log writes
 pub replay-is : (system log : List ℕ)
     → replayText system log
     ≡ bootLine (bootOf system .code)
-    ++ unlessNegative (bootOf system .code) (finished (feed log (record { machine = bootOf system .machine; begun = []; text = [] })))
+    ++ unlessNegative (bootOf system .code) (textAtEnd (feed log (record { machine = bootOf system .machine; begun = []; text = [] })))
 unfolding replayText
 replay-is system log =
     ap (λ (t : List ℕ). bootLine (bootOf system .code) ++ unlessNegative (bootOf system .code) t) (sym (fed-is-replay log (bootOf system .machine)))

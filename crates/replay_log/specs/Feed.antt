@@ -45,8 +45,8 @@ unfoldable pub endOf : List ℕ → Going → Going
 endOf [] g = g
 endOf (b ∷ bs) g = ended g
 
-abbrev pub finished : Going → List ℕ
-finished g = endOf (g .begun) g .text
+abbrev pub textAtEnd : Going → List ℕ
+textAtEnd g = endOf (g .begun) g .text
 
 -- the bytes of a piece before its first line feed
 unfoldable pub lineLength : List ℕ → ℕ

@@ -10,7 +10,7 @@ ghost use Prim.Native.Nat.{_+_, _-_, _≤_, min};
 ghost use lib.Dec.{leb, ltb};
 ghost use lib.ListN.{length, take, drop};
 ghost use Rattle.texts.specs.Texts.{putLine, putCount};
-ghost use Rattle.replay_log.specs.Feed.{feed, finished, lineLength, goingOf};
+ghost use Rattle.replay_log.specs.Feed.{feed, textAtEnd, lineLength, goingOf};
 ghost use Rattle.replay_log.specs.Run.{Puts, Runs};
 use asking::Effect;
 use machine_state::Answer;
@@ -180,8 +180,8 @@ pub fn run(kept: Replay, log: &[u8], out: &mut [u8]) -> Ran
 // The end of the log: writes the answer to a last line without its line feed, if there is one, to
 // the start of `out`, and gives its length; 0 too where `out` has less room than a line may need.
 pub fn finish(kept: Replay, out: &mut [u8]) -> usize
-    ensures { λ r. ⌜ r ≡ putCount 32 (finished (goingOf kept [])) (now (out .entry)) ⌝ }
-    ensures { λ r. ⌜ now (out .exit) ≡ putLine 32 (finished (goingOf kept [])) (now (out .entry)) ⌝ }
+    ensures { λ r. ⌜ r ≡ putCount 32 (textAtEnd (goingOf kept [])) (now (out .entry)) ⌝ }
+    ensures { λ r. ⌜ now (out .exit) ≡ putLine 32 (textAtEnd (goingOf kept [])) (now (out .entry)) ⌝ }
 {
     let len = smaller(kept.len, KEPT);
     if len == 0 {

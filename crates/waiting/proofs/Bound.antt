@@ -13,7 +13,7 @@ use Rattle.rules.specs.Step.{step}
 use Rattle.rules.specs.Asking.{mayBeMessaged, asks, tells}
 use Rattle.rules.specs.Account.{Account, Place, stays, waitedAt}
 use Rattle.rules.specs.Run.{Line, isPoll}
-use Rattle.waiting.specs.Steps.{Moment, account, ended, next, momentAfter, shows, pollsIn, heardWithin}
+use Rattle.waiting.specs.Steps.{Moment, account, accountEnded, next, momentAfter, shows, pollsIn, heardWithin}
 use Rattle.waiting.specs.Demand3.{inW, sizeOfW}
 use Rattle.waiting.proofs.Shown.{live-lt}
 use Rattle.waiting.proofs.Machines.{NoneWoken, and-fst, and-snd}
@@ -35,16 +35,16 @@ module _ (k spent : ℕ) (now : Moment) (l : Line) (ls : List Line) where
   unfolding pollsIn
   polls-more p = rw (p, pollsIn)
 
-  within-passed : ended now ≡ false → isPoll (l .event) ≡ false → heardWithin step k spent now (l ∷ ls) ≡ heardWithin step k spent (next step l now) ls
+  within-passed : accountEnded now ≡ false → isPoll (l .event) ≡ false → heardWithin step k spent now (l ∷ ls) ≡ heardWithin step k spent (next step l now) ls
   unfolding heardWithin
   within-passed e p = rw (e, p, heardWithin)
 
-  within-unheard : ended now ≡ false → isPoll (l .event) ≡ true → shows now ≡ false
+  within-unheard : accountEnded now ≡ false → isPoll (l .event) ≡ true → shows now ≡ false
       → heardWithin step k spent now (l ∷ ls) ≡ (ltb (suc spent) k && heardWithin step k (suc spent) (next step l now) ls)
   unfolding heardWithin
   within-unheard e p h = rw (e, p, h, heardWithin)
 
-  within-heard : ended now ≡ false → isPoll (l .event) ≡ true → shows now ≡ true
+  within-heard : accountEnded now ≡ false → isPoll (l .event) ≡ true → shows now ≡ true
       → heardWithin step k spent now (l ∷ ls) ≡ heardWithin step k 0 (next step l now) ls
   unfolding heardWithin
   within-heard e p h = rw (e, p, h, heardWithin)
@@ -71,12 +71,12 @@ module _ (a : Account) (met : Machine) where
 
   -- `spent` polls of the k that the cell waited for has
   pub in-time : (k : ℕ) (ls : List Line) (now : Moment) (spent : ℕ) → InCall a met now → spent < k → heardWithin step k spent now ls ≡ true
-      → k + howMany (account now .place) * k ≤ pollsIn ls + spent → ended (momentAfter step now ls) ≡ true
+      → k + howMany (account now .place) * k ≤ pollsIn ls + spent → accountEnded (momentAfter step now ls) ≡ true
   unfolding heardWithin pollsIn momentAfter
   in-time k [] now spent c s h q = absurd (omega arith)
   in-time k (l ∷ ls) now spent c s h q = go (does a met now l c) (in-time k ls (next step l now))
     where
-      goes-on : ended now ≡ false
+      goes-on : accountEnded now ≡ false
       goes-on = follows-waits (now .machine) (now .watch) (c .along .follows) .1
 
       b : Account
@@ -91,13 +91,13 @@ module _ (a : Account) (met : Machine) where
       Rec : Type 0
       Rec =
           (spent : ℕ) → InCall a met (next step l now) → spent < k → heardWithin step k spent (next step l now) ls ≡ true
-          → k + there * k ≤ pollsIn ls + spent → ended (momentAfter step (next step l now) ls) ≡ true
+          → k + there * k ≤ pollsIn ls + spent → accountEnded (momentAfter step (next step l now) ls) ≡ true
 
       -- the account stays, and with it what is left
       same : b ≡ stays (account now) → there * k ≡ here * k
       same e = ap (λ (x : Account). howMany (x .place) * k) e
 
-      go : Does a met now l → Rec → ended (momentAfter step (next step l now) ls) ≡ true
+      go : Does a met now l → Rec → accountEnded (momentAfter step (next step l now) ls) ≡ true
       go (nothing p e i) r =
           r spent i s (sym (within-passed k spent now l ls goes-on p) ∙ h) (omega (arith, polls-passed k spent now l ls p, same e))
       go (polls p f e i) r = r (suc spent) i (ltb-true (suc spent) k (and-fst (ltb (suc spent) k) later both)) (and-snd (ltb (suc spent) k) later both) (omega (arith, polls-more k spent now l ls p, same e))

@@ -14,7 +14,7 @@ use Rattle.rules.specs.Account.{Account, Asks, endedAt, waitedAt}
 use Rattle.rules.specs.Observer.{watched, watchedPoll}
 use Rattle.rules.specs.Run.{Line, Happened, happens, isPoll}
 use Rattle.waiting.specs.Steps.{CallLine, pollLine, Moment, account, atCall, next, messagedWith, messagedIn, timesWith}
-use Rattle.waiting.specs.Demand3.{since, StillWaits, OfStep, OwnSteps, OtherSteps, AnswersAsAccount, WaitsAsAccount, NoCallLeftWaiting, MovesAsAccount, TableKept, FromCleared, EffectOnce, timesDue, sizeOfW, messaged, Bounded, WaitingCall, LeftWaiting, Demand3}
+use Rattle.waiting.specs.Demand3.{since, StillWaits, OfStep, OwnSteps, OtherSteps, AnswersAsAccount, WaitsAsAccount, NoCallLeftWaiting, MovesAsAccount, KeepsTable, FromCleared, EffectOnce, timesDue, sizeOfW, messaged, Bounded, WaitingCall, LeftWaiting, Demand3}
 use Rattle.waiting.proofs.Machines.{AllWords}
 use Rattle.reached.proofs.Runs.{reached-agrees}
 use Rattle.waiting.proofs.Stores.{Other}
@@ -108,7 +108,7 @@ module _ (c : CallLine) (met : Machine) (h : AllWords met) (t : LeftWaiting step
     answers = own AnswersAsAccount (λ k a s. s .answers);
     end = (own WaitsAsAccount (λ k a s. s .end), alone);
     effect = (own (MovesAsAccount c) (λ k a s. s .effect), once);
-    frame = (own TableKept (λ k a s. s .frame), (λ later l p n e. other later l p n .kept .table));
+    frame = (own KeepsTable (λ k a s. s .frame), (λ later l p n e. other later l p n .kept .table));
     bound = bounded;
     messages = own FromCleared (λ k a s. s .messages);
   }

@@ -23,7 +23,7 @@ use Rattle.rules.specs.Effects.{effect, cellCreated, cellDestroyed, cpusChanged
 use Rattle.rules.specs.Asking.{mayBeMessaged, message, shutdownRequest, reconfigCompleted, tells}
 use Rattle.rules.specs.Account.{Place, Asks, Tells, Ended, movesTo, remains, endedAt, waitedAt}
 use Rattle.rules.specs.Observer.{Watched, watchedOther, watched}
-use Rattle.waiting.specs.Steps.{tableOf, Table, messagedAt, effectOf, moveOf}
+use Rattle.waiting.specs.Steps.{cellTableOf, CellTable, messagedAt, accountEffect, moveOf}
 use Rattle.waiting.proofs.Shown.{live-lt}
 use Rattle.waiting.proofs.Machines.{AllWords, comm-same, all-words-with, NoneWoken, words-woken, effect-may, effect-all-words, and-fst, and-snd}
 use Rattle.waiting.proofs.Moves.{waitingAt, waitingOf, Heeds, AtPlace}
@@ -133,7 +133,7 @@ module _ (kind : CallKind) (target : ℕ) (before : ℕ → Bool) (new : CellCon
 
   pub moved-follows : (effect : Bool) (place : Place) → Fit m kind target before effect place → endedAt place ≡ false
       → Moved effect place (movedTo kind target effect place new m)
-  unfolding Fit endedAt moveOf effectOf messagedAt AtPlace KindAt withWaiting withComm NoneWoken
+  unfolding Fit endedAt moveOf accountEffect messagedAt AtPlace KindAt withWaiting withComm NoneWoken
   moved-follows true (Asks c) f n = absurd (true≢false (f .without))
   moved-follows false (Asks c) f n =
       (record { allWords = there .allWords; on = o; small = l; waiting = refl; place = there .heeds; kind = f .asked }, there .woken)
@@ -161,19 +161,19 @@ has-reply m target (Ended code) reply w = absurd w
 
 place-kept : (m n : Machine) (target : ℕ) (place : Place) (reply : ℕ) → Kept m n → AtPlace m target place reply
     → AtPlace n target place (commAt n (waitedAt place) .«reply_from_cell»)
-unfolding AtPlace waitedAt tableOf
-place-kept m n target (Asks c) reply k w = record { low = w .low; alive = ap (λ (t : Table). hasId (t .live) c) (k .table) ∙ w .alive; same = refl }
+unfolding AtPlace waitedAt cellTableOf
+place-kept m n target (Asks c) reply k w = record { low = w .low; alive = ap (λ (t : CellTable). hasId (t .live) c) (k .table) ∙ w .alive; same = refl }
 place-kept m n target (Tells c) reply k w =
-    (record { low = w .0 .low; alive = ap (λ (t : Table). hasId (t .live) c) (k .table) ∙ w .0 .alive; same = refl }, stays-out m n target (k .woken) (w .1))
+    (record { low = w .0 .low; alive = ap (λ (t : CellTable). hasId (t .live) c) (k .table) ∙ w .0 .alive; same = refl }, stays-out m n target (k .woken) (w .1))
 place-kept m n target (Ended code) reply k w = absurd w
 
 pub other-follows : (e : Event) (m : Machine) (w : Watched) (s : Stepped) → Follows m w → Other e m s → Follows (s .machine) (watched e (s .answer) m w)
-unfolding tableOf
+unfolding cellTableOf
 other-follows e m w s f o =
     subst (Follows (s .machine)) (sym (o .reply w (has-reply m (w .account .target) (w .account .place) (w .reply) (f .place))))
     (record {
       allWords = o .kept .allWords (f .allWords);
-      on = ap (λ (t : Table). isOn (t .power)) (o .kept .table) ∙ f .on;
+      on = ap (λ (t : CellTable). isOn (t .power)) (o .kept .table) ∙ f .on;
       small = f .small;
       waiting = o .kept .waiting ∙ f .waiting;
       place = place-kept m (s .machine) (w .account .target) (w .account .place) (w .reply) (o .kept) (f .place);

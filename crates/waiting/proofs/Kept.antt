@@ -13,13 +13,13 @@ use Rattle.machine_state.specs.Machine.{pastCpu}
 use Rattle.rules.specs.State.{commAt, cpuAt, stateAt, active, isFinal, withComm, withCpus, withCpu}
 use Rattle.rules.specs.Effects.{counted, countExit}
 use Rattle.rules.specs.Asking.{mayBeMessaged}
-use Rattle.waiting.specs.Steps.{Table, tableOf, ownerIn}
+use Rattle.waiting.specs.Steps.{CellTable, cellTableOf, ownerIn}
 use Rattle.waiting.proofs.Machines.{AllWords, all-words-with, NoneWoken, words-woken}
 
 -- what such an event keeps
 pub record Kept (m n : Machine) : Type 0 where
   pub allWords : AllWords m → AllWords n
-  pub table : tableOf n ≡ tableOf m
+  pub table : cellTableOf n ≡ cellTableOf m
   pub waiting : n .waiting ≡ m .waiting
   pub woken : NoneWoken m n
 
@@ -38,7 +38,7 @@ kept-trans m n o k l = record {
 
 -- a CPU changed, its owner the same
 pub kept-cpu : (cpu : ℕ) (p : Cpu) (m : Machine) → p .cell ≡ cpuAt m cpu .cell → Kept m (withCpu cpu p m)
-unfolding NoneWoken withCpus tableOf ownerIn mayBeMessaged active
+unfolding NoneWoken withCpus cellTableOf ownerIn mayBeMessaged active
 kept-cpu cpu p m e = record {
   allWords = λ h. h;
   table = ap (λ (o : List ℕ). record { power = m .power; live = m .«live_ids»; cells = m .cells; root = m .«root_cpus»; owners = o; pool = m .«pool_used» })
@@ -50,7 +50,7 @@ kept-cpu cpu p m e = record {
 -- words changed, without waking the cell
 pub kept-words : (k : ℕ) (c : CommRegion) (m : Machine) → c .passive ≡ commAt m k .passive
     → (isFinal (c .«cell_state») ≡ false → isFinal (stateAt m k) ≡ false) → Kept m (withComm k c m)
-unfolding withComm tableOf
+unfolding withComm cellTableOf
 kept-words k c m p f = record { allWords = all-words-with m k c; table = refl; waiting = refl; woken = words-woken m k c p f }
 
 pub kept-counted : (own cpu : ℕ) (m : Machine) → Kept m (counted own cpu m)
@@ -58,7 +58,7 @@ unfolding counted countExit
 kept-counted own cpu m = kept-cpu cpu (countExit own (cpuAt m cpu)) m refl
 
 -- a CPU's owner is the table's
-pub owner-same : (m n : Machine) (k : ℕ) → tableOf n ≡ tableOf m → cpuAt n k .cell ≡ cpuAt m k .cell
-unfolding tableOf ownerIn
+pub owner-same : (m n : Machine) (k : ℕ) → cellTableOf n ≡ cellTableOf m → cpuAt n k .cell ≡ cpuAt m k .cell
+unfolding cellTableOf ownerIn
 owner-same m n k e =
-    sym (List·getD-map ownerIn (n .cpus) k pastCpu) ∙ ap (λ (t : Table). getD (t .owners) k 0) e ∙ List·getD-map ownerIn (m .cpus) k pastCpu
+    sym (List·getD-map ownerIn (n .cpus) k pastCpu) ∙ ap (λ (t : CellTable). getD (t .owners) k 0) e ∙ List·getD-map ownerIn (m .cpus) k pastCpu

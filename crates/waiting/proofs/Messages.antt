@@ -15,7 +15,7 @@ use Rattle.rules.specs.Step.{step}
 use Rattle.rules.specs.Asking.{mayBeMessaged, asks, tells}
 use Rattle.rules.specs.Account.{Account, Place, Asks, Tells, Ended, stays, remains, endedAt, waitedAt}
 use Rattle.rules.specs.Run.{Line, isPoll}
-use Rattle.waiting.specs.Steps.{Moment, account, ended, next, shows, cellOfPlace, messagedWith, messagedIn}
+use Rattle.waiting.specs.Steps.{Moment, account, accountEnded, next, shows, cellOfPlace, messagedWith, messagedIn}
 use Rattle.waiting.specs.Demand3.{timesDue, inW}
 use Rattle.waiting.proofs.Machines.{NoneWoken, and-fst, and-snd}
 use Rattle.waiting.proofs.Went.{Went, Fit, askAhead, tellAhead, toCome}
@@ -119,7 +119,7 @@ module _ (a : Account) (met : Machine) where
   pub data Does (now : Moment) (l : Line) : Type 0 where
     nothing : isPoll (l .event) ≡ false → account (next step l now) ≡ stays (account now) → InCall (next step l now) → Does now l
     polls : isPoll (l .event) ≡ true → shows now ≡ false → account (next step l now) ≡ stays (account now) → InCall (next step l now) → Does now l
-    ends : isPoll (l .event) ≡ true → shows now ≡ true → messagedWith (account (next step l now)) ≡ [] → ended (next step l now) ≡ true → Does now l
+    ends : isPoll (l .event) ≡ true → shows now ≡ true → messagedWith (account (next step l now)) ≡ [] → accountEnded (next step l now) ≡ true → Does now l
     moves :
         isPoll (l .event) ≡ true → shows now ≡ true → InCall (next step l now)
         → messagedWith (account (next step l now)) ≡ waitedAt (account (next step l now) .place) ∷ []
@@ -189,7 +189,7 @@ module _ (a : Account) (met : Machine) where
     once = ap₂ (λ (x y : Bool). x && y) (all-differ _ (waitedAt place) (s .out) cells (l .ahead)) (l .once);
   }
 
-  none-when-ended : (ls : List Line) (now : Moment) → ended now ≡ true → messagedIn step now ls ≡ []
+  none-when-ended : (ls : List Line) (now : Moment) → accountEnded now ≡ true → messagedIn step now ls ≡ []
   unfolding messagedIn messagedWith
   none-when-ended [] now e = refl
   none-when-ended (l ∷ ls) now e =

@@ -26,7 +26,7 @@ use Rattle.rules.specs.Asking.{mayBeMessaged, nextToMessage, everyCell, asks, t
 use Rattle.rules.specs.Account.{Account, Place, Asks, Tells, Ended, movesTo, stays, remains, nextShown, lastCode, tellOn, effectComes, noneLeftToAsk, askOn, heardBy, consentsBy, stateShown, polledAt, polled, answerAt, answerOf}
 use Rattle.rules.specs.Observer.{shownBy}
 use Rattle.rules.proofs.Ids.{first-same}
-use Rattle.waiting.specs.Steps.{messagedAt, effectOf, moveOf}
+use Rattle.waiting.specs.Steps.{messagedAt, accountEffect, moveOf}
 use Rattle.waiting.proofs.Shown.{next-shown, lock-shown, state-shown}
 use Rattle.waiting.proofs.Machines.{AllWords, effect-may}
 
@@ -101,7 +101,7 @@ AtPlace m target (Ended code) reply = ⊥
 
 module _ (kind : CallKind) (target : ℕ) (new : CellConfig) (m : Machine) (h : AllWords m) (l : target < 16) where
   carry-moves : carryOut kind target new m ≡ stepFor (effectComes kind target (shownBy m)) new m
-  unfolding carryOut effectComes stepFor tellOn placed finished moveOf effectOf messagedAt answerAt waitingAt
+  unfolding carryOut effectComes stepFor tellOn placed finished moveOf accountEffect messagedAt answerAt waitingAt
   carry-moves = go (tells kind) refl
     where
       go : (b : Bool) → tells kind ≡ b → carryOut kind target new m ≡ stepFor (effectComes kind target (shownBy m)) new m
@@ -112,7 +112,7 @@ module _ (kind : CallKind) (target : ℕ) (new : CellConfig) (m : Machine) (h : 
       go false e = rw (e, carryOut, effectComes)
 
   none-moves : noneToAsk kind target new m ≡ stepFor (noneLeftToAsk kind target (shownBy m)) new m
-  unfolding noneToAsk noneLeftToAsk stepFor finished moveOf effectOf messagedAt answerAt waitingAt
+  unfolding noneToAsk noneLeftToAsk stepFor finished moveOf accountEffect messagedAt answerAt waitingAt
   none-moves =
       go (isDestroy kind && otherCellLocked target m)
       ∙ ap (λ (b : Bool). stepFor (elim (isDestroy kind && b) [ true ↦ movesTo kind target false (Ended EPERM) | false ↦ effectComes kind target (shownBy m) ]) new m)
@@ -125,7 +125,7 @@ module _ (kind : CallKind) (target : ℕ) (new : CellConfig) (m : Machine) (h : 
       go false = carry-moves
 
   pub ask-moves : (after : ℕ) → ask kind target after new m ≡ stepFor (askOn kind target after (shownBy m)) new m
-  unfolding ask askOn stepFor waitFor moveOf effectOf messagedAt answerAt waitingAt
+  unfolding ask askOn stepFor waitFor moveOf accountEffect messagedAt answerAt waitingAt
   ask-moves after =
       go (ltb there noId)
       ∙ ap (λ (k : ℕ). stepFor (elim (ltb k noId) [ true ↦ movesTo kind target false (Asks k) | false ↦ noneLeftToAsk kind target (shownBy m) ]) new m)
@@ -143,7 +143,7 @@ module _ (kind : CallKind) (target : ℕ) (new : CellConfig) (m : Machine) (h : 
 
   -- telling on, after the effect: the target is no cell that may be messaged
   tell-moves : (after : ℕ) → mayBeMessaged m target ≡ false → tell kind target after m ≡ stepFor (tellOn kind target false after (shownBy m)) new m
-  unfolding stepFor tellOn placed moveOf effectOf
+  unfolding stepFor tellOn placed moveOf accountEffect
   tell-moves after e =
       tell-placed kind target after (nextShown (remains target) after (shownBy m)) m l
       (next-shown m (remains target) after ∙ next-remains target after m m (λ id. same id (ℕ-discrete id target)))
@@ -170,11 +170,11 @@ module _ (kind : CallKind) (target : ℕ) (new : CellConfig) (m : Machine) (h : 
   -- an unheard cell: "nothing changes"
   unheard-stays : (place : Place) (moved effect : Bool) → m .waiting ≡ waitingAt kind target place
       → answered (answerAt place) m ≡ stepFor (stays (placeOf place moved effect)) new m
-  unfolding stepFor moveOf effectOf withWaiting
+  unfolding stepFor moveOf accountEffect withWaiting
   unheard-stays place moved effect e = ap (λ (w : Waiting). answered (answerAt place) (withWaiting w m)) e
 
   refused : finished EPERM m ≡ stepFor (movesTo kind target false (Ended EPERM)) new m
-  unfolding stepFor finished moveOf effectOf messagedAt answerAt waitingAt
+  unfolding stepFor finished moveOf accountEffect messagedAt answerAt waitingAt
   refused = refl
 
   poll-at : (place : Place) (moved effect : Bool) (reply : ℕ) → AtPlace m target place reply → m .waiting ≡ waitingAt kind target place

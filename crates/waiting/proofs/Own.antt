@@ -27,8 +27,8 @@ use Rattle.rules.specs.Step.{obeyed, step}
 use Rattle.rules.specs.Account.{Account, Place, Asks, Tells, Ended, movesTo, stays, polled, answerOf, endedAt, waitedAt}
 use Rattle.rules.specs.Observer.{Watched, watchedPoll, shownBy}
 use Rattle.rules.specs.Run.{Line, Happened, happens}
-use Rattle.waiting.specs.Steps.{CallLine, pollLine, account, messagedAt, effectOf, moveOf, countedFor, butWaiting, tableOf, cellOfPlace, messagedWith, timesWith}
-use Rattle.waiting.specs.Demand3.{AnswersAsAccount, WaitsAsAccount, MovesAsAccount, TableKept, FromCleared, timesDue}
+use Rattle.waiting.specs.Steps.{CallLine, pollLine, account, messagedAt, accountEffect, moveOf, countedFor, butWaiting, cellTableOf, cellOfPlace, messagedWith, timesWith}
+use Rattle.waiting.specs.Demand3.{AnswersAsAccount, WaitsAsAccount, MovesAsAccount, KeepsTable, FromCleared, timesDue}
 use Rattle.waiting.proofs.Machines.{NoneWoken}
 use Rattle.waiting.proofs.Moves.{waitingAt, waitingOf, stepFor, AtPlace, poll-moves}
 use Rattle.waiting.proofs.Went.{KindAt, Polled, toCome, poll-went}
@@ -42,20 +42,20 @@ waits-at kind target (Asks c) = refl
 waits-at kind target (Tells c) = refl
 waits-at kind target (Ended code) = refl
 
-messaged-table : (place : Place) (m : Machine) → tableOf (messagedAt place m) ≡ tableOf m
-unfolding messagedAt tableOf withComm
+messaged-table : (place : Place) (m : Machine) → cellTableOf (messagedAt place m) ≡ cellTableOf m
+unfolding messagedAt cellTableOf withComm
 messaged-table (Asks c) m = refl
 messaged-table (Tells c) m = refl
 messaged-table (Ended code) m = refl
 
-move-table : (a : Account) (new : CellConfig) (m : Machine) → a .effect ≡ false → tableOf (moveOf a new m) ≡ tableOf m
-unfolding moveOf effectOf
+move-table : (a : Account) (new : CellConfig) (m : Machine) → a .effect ≡ false → cellTableOf (moveOf a new m) ≡ cellTableOf m
+unfolding moveOf accountEffect
 move-table a new m e = go (a .moved) (a .effect) e
   where
     base : Bool → Machine
     base b = elim b [ true ↦ effect (a .kind) (a .target) new m | false ↦ m ]
 
-    go : (moved b : Bool) → b ≡ false → tableOf (elim moved [ true ↦ messagedAt (a .place) (base b) | false ↦ base b ]) ≡ tableOf m
+    go : (moved b : Bool) → b ≡ false → cellTableOf (elim moved [ true ↦ messagedAt (a .place) (base b) | false ↦ base b ]) ≡ cellTableOf m
     go moved true f = absurd (true≢false f)
     go true false f = messaged-table (a .place) m
     go false false f = refl
@@ -65,18 +65,18 @@ pub record OwnStep (c : CallLine) (h : Happened) (a : Account) : Type 0 where
   pub answers : AnswersAsAccount h a
   pub end : WaitsAsAccount h a
   pub effect : MovesAsAccount c h a
-  pub frame : TableKept h a
+  pub frame : KeepsTable h a
   pub messages : FromCleared h a
 
 pub own-step : (c : CallLine) (l : Line) (m : Machine) (a : Account)
     → step (l .event) (l .bytes) m ≡ stepFor a (cellOf (c .bytes)) (countedFor (l .event) m)
-    → tableOf (countedFor (l .event) m) ≡ tableOf m → FromCleared (happens step l m) a → OwnStep c (happens step l m) a
-unfolding stepFor answered withWaiting tableOf
+    → cellTableOf (countedFor (l .event) m) ≡ cellTableOf m → FromCleared (happens step l m) a → OwnStep c (happens step l m) a
+unfolding stepFor answered withWaiting cellTableOf
 own-step c l m a e t f = record {
   answers = ap (λ (s : Stepped). s .answer) e;
   end = ap (λ (s : Stepped). waits (s .machine .waiting)) e ∙ waits-at (a .kind) (a .target) (a .place);
   effect = ap (λ (s : Stepped). butWaiting (s .machine)) e;
-  frame = λ q. ap (λ (s : Stepped). tableOf (s .machine)) e ∙ move-table a (cellOf (c .bytes)) (countedFor (l .event) m) q ∙ t;
+  frame = λ q. ap (λ (s : Stepped). cellTableOf (s .machine)) e ∙ move-table a (cellOf (c .bytes)) (countedFor (l .event) m) q ∙ t;
   messages = f;
 }
 
@@ -126,8 +126,8 @@ due-one (Ended (negsuc n)) = omega arith
 
 any-effect : (kind : CallKind) (target : ℕ) (place there : Place) (comes : Bool) (new old : CellConfig) (m : Machine) → KindAt kind target place
     → endedAt place ≡ false → timesDue there ≡ timesDue place + timesWith (movesTo kind target comes there)
-    → effectOf (movesTo kind target comes there) new m ≡ effectOf (movesTo kind target comes there) old m
-unfolding KindAt timesDue timesWith effectOf endedAt
+    → accountEffect (movesTo kind target comes there) new m ≡ accountEffect (movesTo kind target comes there) old m
+unfolding KindAt timesDue timesWith accountEffect endedAt
 any-effect kind target place there false new old m k n d = refl
 any-effect kind target (Asks c) there true new old m k n d = effect-any kind target c new old m k
 any-effect kind target (Tells c) there true new old m k n d = absurd (omega (arith, due-one there))
@@ -152,7 +152,7 @@ module _ (m : Machine) (w : Watched) (f : Follows m w) where
       sym (rule-passed (off m) _ _ (ap not (f .on))) ∙ sym (rule-passed (idle m) _ _ (ap not (follows-waits m w f .0))) ∙ sym (no-rule _)
 
   move-any : (new old : CellConfig) → moveOf b new m ≡ moveOf b old m
-  unfolding moveOf effectOf Polled
+  unfolding moveOf accountEffect Polled
   move-any new old = go gone
     where
       go : Gone → moveOf b new m ≡ moveOf b old m
@@ -177,7 +177,7 @@ module _ (m : Machine) (w : Watched) (f : Follows m w) where
   Leaves x n = Follows n (seenAs x) × NoneWoken m n
 
   leaves : (new : CellConfig) → endedAt (b .place) ≡ false → Leaves b (withWaiting (waitingOf b) (moveOf b new m))
-  unfolding Polled NoneWoken moveOf effectOf withWaiting
+  unfolding Polled NoneWoken moveOf accountEffect withWaiting
   leaves new n = go gone
     where
       left : Account → Machine

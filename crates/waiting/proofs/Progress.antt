@@ -12,7 +12,7 @@ use Rattle.rules.specs.Step.{step}
 use Rattle.rules.specs.Account.{Account, stays, polled}
 use Rattle.rules.specs.Observer.{Watched, watchedPoll, watched, shownBy}
 use Rattle.rules.specs.Run.{Line, happens, isPoll}
-use Rattle.waiting.specs.Steps.{Moment, account, ended, next, momentAfter, shows, timesWith, timesIn}
+use Rattle.waiting.specs.Steps.{Moment, account, accountEnded, next, momentAfter, shows, timesWith, timesIn}
 use Rattle.waiting.specs.Demand3.{timesDue}
 use Rattle.waiting.proofs.Went.{Went, Polled, toCome, poll-went}
 use Rattle.waiting.proofs.Runs.{Along, next-along, other-stays, ended-stays, ended-next, is-poll}
@@ -58,13 +58,13 @@ progress met now l f = go (isPoll (l .event)) refl
 
 -- the call goes on, or it has ended
 unfoldable pub Going : Machine → Moment → Type 0
-Going met now = Along met now ⊎ (ended now ≡ true)
+Going met now = Along met now ⊎ (accountEnded now ≡ true)
 
 pub next-going : (met : Machine) (now : Moment) (l : Line) → Going met now → Going met (next step l now)
 unfolding Going
-next-going met now l (inl f) = go (ended (next step l now)) refl
+next-going met now l (inl f) = go (accountEnded (next step l now)) refl
   where
-    go : (b : Bool) → ended (next step l now) ≡ b → Going met (next step l now)
+    go : (b : Bool) → accountEnded (next step l now) ≡ b → Going met (next step l now)
     go true e = inr e
     go false e = inl (next-along met l now f e)
 next-going met now l (inr e) = inr (ended-next l now e)

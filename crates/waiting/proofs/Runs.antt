@@ -15,7 +15,7 @@ use Rattle.rules.specs.Step.{step}
 use Rattle.rules.specs.Account.{Account, Place, Asks, Tells, Ended, stays, polledAt, polled, endedAt, waitedAt}
 use Rattle.rules.specs.Observer.{Watched, watchedPoll, watchedOther, watchedStore, watched, shownBy, isDone}
 use Rattle.rules.specs.Run.{Line, happens, isPoll}
-use Rattle.waiting.specs.Steps.{Moment, account, ended, next, momentAfter}
+use Rattle.waiting.specs.Steps.{Moment, account, accountEnded, next, momentAfter}
 use Rattle.waiting.proofs.Machines.{NoneWoken}
 use Rattle.waiting.proofs.Stores.{Other}
 use Rattle.waiting.proofs.Others.{step-other}
@@ -60,7 +60,7 @@ abbrev pub momentOf : Event → List ℕ → Moment → Moment
 momentOf e bytes now = next step (record { event = e; bytes = bytes }) now
 
 module _ (met : Machine) (bytes : List ℕ) (now : Moment) (f : Along met now) where
-  poll-along : ended (momentOf Poll bytes now) ≡ false → Along met (momentOf Poll bytes now)
+  poll-along : accountEnded (momentOf Poll bytes now) ≡ false → Along met (momentOf Poll bytes now)
   unfolding next watched watchedPoll NoneWoken
   poll-along n = record { follows = left .0; woken = λ id t. f .woken id (left .1 id t) }
     where
@@ -77,16 +77,16 @@ module _ (met : Machine) (bytes : List ℕ) (now : Moment) (f : Along met now) w
     woken = λ id t. f .woken id (other-at e p .kept .woken id t);
   }
 
-  event-along : (e : Event) → ended (momentOf e bytes now) ≡ false → Along met (momentOf e bytes now)
+  event-along : (e : Event) → accountEnded (momentOf e bytes now) ≡ false → Along met (momentOf e bytes now)
   event-along e n = go (isPoll e) refl
     where
       go : (b : Bool) → isPoll e ≡ b → Along met (momentOf e bytes now)
       go true p =
           subst (λ (x : Event). Along met (momentOf x bytes now)) (sym (is-poll e p))
-          (poll-along (ap (λ (x : Event). ended (momentOf x bytes now)) (sym (is-poll e p)) ∙ n))
+          (poll-along (ap (λ (x : Event). accountEnded (momentOf x bytes now)) (sym (is-poll e p)) ∙ n))
       go false p = other-along e p
 
-pub next-along : (met : Machine) (l : Line) (now : Moment) → Along met now → ended (next step l now) ≡ false → Along met (next step l now)
+pub next-along : (met : Machine) (l : Line) (now : Moment) → Along met now → accountEnded (next step l now) ≡ false → Along met (next step l now)
 next-along met l now f n = event-along met (l .bytes) now f (l .event) n
 
 -- ---- lists
@@ -101,7 +101,7 @@ ended-poll a reply m e = go (a .place) e
     go (Ended code) t = refl
 
 -- an account that has ended stays as it is
-pub ended-stays : (l : Line) (now : Moment) → ended now ≡ true → account (next step l now) ≡ stays (account now)
+pub ended-stays : (l : Line) (now : Moment) → accountEnded now ≡ true → account (next step l now) ≡ stays (account now)
 unfolding next watched watchedPoll
 ended-stays l now t = go (isPoll (l .event)) refl
   where
@@ -116,19 +116,19 @@ ended-stays l now t = go (isPoll (l .event)) refl
         ap (λ (x : Event). watched x answer (now .machine) w .account) (is-poll (l .event) p) ∙ ended-poll (w .account) (w .reply) (now .machine) t
     go false p = other-stays (l .event) answer (now .machine) w p
 
-pub ended-next : (l : Line) (now : Moment) → ended now ≡ true → ended (next step l now) ≡ true
+pub ended-next : (l : Line) (now : Moment) → accountEnded now ≡ true → accountEnded (next step l now) ≡ true
 ended-next l now e = ap (λ (a : Account). endedAt (a .place)) (ended-stays l now e) ∙ e
 
-pub ended-after : (ls : List Line) (now : Moment) → ended now ≡ true → ended (momentAfter step now ls) ≡ true
+pub ended-after : (ls : List Line) (now : Moment) → accountEnded now ≡ true → accountEnded (momentAfter step now ls) ≡ true
 unfolding momentAfter
 ended-after [] now e = e
 ended-after (l ∷ ls) now e = ended-after ls (next step l now) (ended-next l now e)
 
 -- an account that goes on after a list went on before it
-pub before-goes-on : (ls : List Line) (now : Moment) → ended (momentAfter step now ls) ≡ false → ended now ≡ false
-before-goes-on ls now n = is-false (ended now) (λ t. true≢false (sym (ended-after ls now (is-true (ended now) t)) ∙ n))
+pub before-goes-on : (ls : List Line) (now : Moment) → accountEnded (momentAfter step now ls) ≡ false → accountEnded now ≡ false
+before-goes-on ls now n = is-false (accountEnded now) (λ t. true≢false (sym (ended-after ls now (is-true (accountEnded now) t)) ∙ n))
 
-pub along : (met : Machine) (ls : List Line) (now : Moment) → Along met now → ended (momentAfter step now ls) ≡ false → Along met (momentAfter step now ls)
+pub along : (met : Machine) (ls : List Line) (now : Moment) → Along met now → accountEnded (momentAfter step now ls) ≡ false → Along met (momentAfter step now ls)
 unfolding momentAfter
 along met [] now f n = f
 along met (l ∷ ls) now f n = along met ls (next step l now) (next-along met l now f (before-goes-on ls (next step l now) n)) n

@@ -42,8 +42,8 @@ use Rattle.rules.specs.State.{commAt}
 use Rattle.rules.specs.Answers.{isWait}
 use Rattle.rules.specs.Account.{Account, answerOf}
 use Rattle.rules.specs.Run.{Line, Manager, Happened, happens, after, Accepted, startOf}
-use Rattle.reading_room.specs.ReadingRoom.{box, store}
-use Rattle.waiting.specs.Steps.{CallLine, callLine, pollLine, Moment, account, ended, atCall, next, moveOf, butWaiting, tableOf, Table, messagedWith}
+use Rattle.reading_room.specs.ReadingRoom.{box, logStore}
+use Rattle.waiting.specs.Steps.{CallLine, callLine, pollLine, Moment, account, accountEnded, atCall, next, moveOf, butWaiting, cellTableOf, CellTable, messagedWith}
 use Rattle.waiting.specs.Demand3.{since, WaitingCall, Demand3}
 use Rattle.waiting.specs.Box.{rootCall, bothStarted}
 use Rattle.waiting.specs.Wrong.{effectFirst, endsEarly, staleReply, denialConsents, locksBefore, messagesTwice, changesBack, tellsFirst}
@@ -65,7 +65,7 @@ number Held = 304
 number Denied = 305
 number Idle = 306
 
-liveIn : Table → ℕ
+liveIn : CellTable → ℕ
 liveIn t = t .live
 
 live : Machine → ℕ
@@ -102,7 +102,7 @@ polled manager before c later = account (next manager (pollLine []) (then manage
 record Waits (manager : Manager) (before : List Line) (c : CallLine) (later : List Line) : Type 0 where
   accepted : Accepted box
   left : isWait (called manager before c .answer) ≡ true
-  still : ended (then manager before c later) ≡ false
+  still : accountEnded (then manager before c later) ≡ false
 
 -- the poll's answer is not the account's
 record WrongAnswer (manager : Manager) (before : List Line) (c : CallLine) (later : List Line) : Type 0 where
@@ -120,7 +120,7 @@ record WrongMove (figure : Machine → ℕ) (manager : Manager) (before : List L
 record WrongTable (manager : Manager) (before : List Line) (c : CallLine) : Type 0 where
   waits : Waits manager before c []
   none : begun manager before c .effect ≡ false
-  wrong : eqb (liveIn (tableOf (called manager before c .after))) (liveIn (tableOf (met manager before))) ≡ false
+  wrong : eqb (liveIn (cellTableOf (called manager before c .after))) (liveIn (cellTableOf (met manager before))) ≡ false
 
 record WrongFrom (manager : Manager) (before : List Line) (c : CallLine) : Type 0 where
   waits : Waits manager before c []
@@ -158,10 +158,10 @@ disable = rootCall 0 0 []
 
 -- `search` consents, denies
 consent : List Line
-consent = store 2 1 3 ∷ []
+consent = logStore 2 1 3 ∷ []
 
 denial : List Line
-denial = store 2 1 2 ∷ []
+denial = logStore 2 1 2 ∷ []
 
 record Runs : Type 0 where
   effect-first : WrongTable effectFirst bothStarted destroy
@@ -171,14 +171,14 @@ record Runs : Type 0 where
   stale-taken : WrongAnswer staleReply (bothStarted ++ consent) destroy []
   denial-consents : WrongAnswer denialConsents bothStarted destroy denial
   -- `notes` locks the configuration while the call waits
-  locks-before : WrongAnswer locksBefore bothStarted destroy (store 1 2 1 ∷ consent)
+  locks-before : WrongAnswer locksBefore bothStarted destroy (logStore 1 2 1 ∷ consent)
   -- `search` stores 9 to its `to`
-  twice : WrongMove (to 1) messagesTwice bothStarted destroy (store 2 0 9 ∷ [])
+  twice : WrongMove (to 1) messagesTwice bothStarted destroy (logStore 2 0 9 ∷ [])
   back : WrongMove (from 1) changesBack bothStarted disable consent
   tells-first : WrongMove live tellsFirst bothStarted destroy consent
 
 runs : Runs
-unfolding Lists.all Lists.any Lists.pairwise Lists.from Lists.same Rules.firstRule CpuSet.member CpuSet.numberOf CpuSet.subset CpuSet.meets CpuSet.isEmpty CpuSet.union CpuSet.without CpuSet.below CpuSet.countBelow CpuSet.count Fields.littleEndian Fields.field Fields.zeros Fields.leading Fields.isName Fields.padded Regions.regionOf Regions.noRegion Regions.wholePages Regions.placed Regions.flagsOk Regions.commOk Regions.overlap Regions.inside Regions.overlapVirt Regions.overlapPhys Regions.apart Regions.clearOf Regions.insidePhys Tables.regionAt Tables.regionsOf Tables.tableOf SystemRecord.systemOf SystemRecord.systemForm SystemRecord.bootRegionOk SystemRecord.systemValid SystemRecord.outOfRange SystemRecord.overdrawn SystemRecord.bootAnswer SystemRecord.readSystem CellRecord.cellOf CellRecord.cellForm CellRecord.cellRegionOk CellRecord.cellValid CellRecord.cellAnswer CellRecord.readCell Machine.freshCpu Machine.noComm Machine.noCell Machine.firstMachine Machine.powerAfter Machine.bootOf Room.region Room.box Room.cell Room.search Room.notes Run.after Room.booted State.first State.hasId State.active State.waits State.withWaiting State.withPower State.withPool State.withIds State.withRootCpus State.withCell State.withComm State.withCpus State.answered Unobeyed.isOn Unobeyed.storeDenied Unobeyed.unobeyed Queries.getInfo Queries.getState Queries.cpuGetInfo Create.otherCellLocked Create.invalid Create.nameInUse Create.conflict Create.conflicts Create.regionInUse Create.busy Create.freeId Create.noRoom Effects.bump Effects.countExit Effects.counted Effects.storeWord Effects.stored Effects.failCpu Effects.allFailed Effects.cellFailed Effects.faulted Effects.changeIn Effects.changeCpus Effects.cpusChanged Effects.startCpu Effects.stopCpu Effects.addId Effects.dropId Effects.newCell Effects.newComm Effects.cellCreated Effects.withPhase Effects.inPhase Effects.clearWords Effects.cellStarted Effects.cellLoadable Effects.cellDestroyed Effects.allDestroyed Effects.disabled Effects.effect Asking.mayBeMessaged Asking.nextToMessage Asking.asks Asking.tells Asking.isDestroy Asking.message Asking.waitFor Asking.finished Asking.endCode Asking.tell Asking.carryOut Asking.noneToAsk Asking.ask Asking.isHeard Asking.consents Asking.hear Asking.pollCell Asking.poll Calls.disableCall Calls.createCall Calls.targetCall Calls.callByCode Calls.call Step.obeyed Step.step CommRegion.bytes Answers.isNegative Answers.isWait Account.nextShown Account.unusedId Account.aboutCell Account.lastCode Account.tellOn Account.effectComes Account.lockShown Account.noneLeftToAsk Account.askOn Account.begun Account.stateShown Account.heardBy Account.consentsBy Account.polledAt Account.polled Account.answerAt Account.endedAt Account.waitedAt Observer.shownFrom Observer.kindOfCode Observer.targetOf Observer.watchedCall Observer.watchedPoll Observer.isDone Observer.watchedStore Observer.watched Run.isPoll Steps.atCall Steps.next Steps.momentAfter Steps.cellOfPlace Steps.messagedWith Steps.messagedIn Steps.timesWith Steps.timesIn number liveIn live to from met called begun then atPoll polled destroy disable consent denial Steps.messagedAt Steps.effectOf Steps.moveOf Steps.tableOf Wrong.changed Wrong.leaving Wrong.waitedCell Wrong.effectFirst Wrong.endsEarly Wrong.replyKept Wrong.staleReply Wrong.asksOn Wrong.denialConsents Wrong.carriesOut Wrong.locksBefore Wrong.messagesTwice Wrong.changesBack Wrong.tellsOn Wrong.tellsFirst
+unfolding Lists.all Lists.any Lists.pairwise Lists.from Lists.same Rules.firstRule CpuSet.member CpuSet.numberOf CpuSet.subset CpuSet.meets CpuSet.isEmpty CpuSet.union CpuSet.without CpuSet.below CpuSet.countBelow CpuSet.count Fields.littleEndian Fields.field Fields.zeros Fields.leading Fields.isName Fields.padded Regions.regionOf Regions.noRegion Regions.wholePages Regions.placed Regions.flagsOk Regions.commOk Regions.overlap Regions.inside Regions.overlapVirt Regions.overlapPhys Regions.apart Regions.clearOf Regions.insidePhys Tables.regionAt Tables.regionsOf Tables.tableOf SystemRecord.systemOf SystemRecord.systemForm SystemRecord.bootRegionOk SystemRecord.systemValid SystemRecord.outOfRange SystemRecord.overdrawn SystemRecord.bootAnswer SystemRecord.readSystem CellRecord.cellOf CellRecord.cellForm CellRecord.cellRegionOk CellRecord.cellValid CellRecord.cellAnswer CellRecord.readCell Machine.freshCpu Machine.noComm Machine.noCell Machine.firstMachine Machine.powerAfter Machine.bootOf Room.region Room.box Room.cell Room.search Room.notes Run.after Room.booted State.first State.hasId State.active State.waits State.withWaiting State.withPower State.withPool State.withIds State.withRootCpus State.withCell State.withComm State.withCpus State.answered Unobeyed.isOn Unobeyed.storeDenied Unobeyed.unobeyed Queries.getInfo Queries.getState Queries.cpuGetInfo Create.otherCellLocked Create.invalid Create.nameInUse Create.conflict Create.conflicts Create.regionInUse Create.busy Create.freeId Create.noRoom Effects.bump Effects.countExit Effects.counted Effects.storeWord Effects.stored Effects.failCpu Effects.allFailed Effects.cellFailed Effects.faulted Effects.changeIn Effects.changeCpus Effects.cpusChanged Effects.startCpu Effects.stopCpu Effects.addId Effects.dropId Effects.newCell Effects.newComm Effects.cellCreated Effects.withPhase Effects.inPhase Effects.clearWords Effects.cellStarted Effects.cellLoadable Effects.cellDestroyed Effects.allDestroyed Effects.disabled Effects.effect Asking.mayBeMessaged Asking.nextToMessage Asking.asks Asking.tells Asking.isDestroy Asking.message Asking.waitFor Asking.finished Asking.endCode Asking.tell Asking.carryOut Asking.noneToAsk Asking.ask Asking.isHeard Asking.consents Asking.hear Asking.pollCell Asking.poll Calls.disableCall Calls.createCall Calls.targetCall Calls.callByCode Calls.call Step.obeyed Step.step CommRegion.bytes Answers.isNegative Answers.isWait Account.nextShown Account.unusedId Account.aboutCell Account.lastCode Account.tellOn Account.effectComes Account.lockShown Account.noneLeftToAsk Account.askOn Account.begun Account.stateShown Account.heardBy Account.consentsBy Account.polledAt Account.polled Account.answerAt Account.endedAt Account.waitedAt Observer.shownFrom Observer.kindOfCode Observer.targetOf Observer.watchedCall Observer.watchedPoll Observer.isDone Observer.watchedStore Observer.watched Run.isPoll Steps.atCall Steps.next Steps.momentAfter Steps.cellOfPlace Steps.messagedWith Steps.messagedIn Steps.timesWith Steps.timesIn number liveIn live to from met called begun then atPoll polled destroy disable consent denial Steps.messagedAt Steps.accountEffect Steps.moveOf Steps.cellTableOf Wrong.changed Wrong.leaving Wrong.waitedCell Wrong.effectFirst Wrong.endsEarly Wrong.replyKept Wrong.staleReply Wrong.asksOn Wrong.denialConsents Wrong.carriesOut Wrong.locksBefore Wrong.messagesTwice Wrong.changesBack Wrong.tellsOn Wrong.tellsFirst
 runs = record {
   effect-first = record { waits = record { accepted = refl; left = refl; still = refl }; none = refl; wrong = refl };
   ends-early = record { waits = record { accepted = refl; left = refl; still = refl }; wrong = refl };
@@ -214,11 +214,11 @@ denial-consents = no-answer denialConsents bothStarted destroy denial (runs .den
 
 -- locks tested only before the wait
 pub locks-before : Demand3 locksBefore → ⊥
-locks-before = no-answer locksBefore bothStarted destroy (store 1 2 1 ∷ consent) (runs .locks-before)
+locks-before = no-answer locksBefore bothStarted destroy (logStore 1 2 1 ∷ consent) (runs .locks-before)
 
 -- a cell messaged twice
 pub messages-twice : Demand3 messagesTwice → ⊥
-messages-twice = no-move messagesTwice bothStarted destroy (to 1) (store 2 0 9 ∷ []) (runs .twice)
+messages-twice = no-move messagesTwice bothStarted destroy (to 1) (logStore 2 0 9 ∷ []) (runs .twice)
 
 -- a heard cell changed back
 pub changes-back : Demand3 changesBack → ⊥

@@ -16,7 +16,7 @@ use Rattle.rules.specs.Asking.{asks, tells, mayBeMessaged}
 use Rattle.rules.specs.Account.{Account, Place, Asks, Tells, Ended, endedAt, answerOf}
 use Rattle.rules.specs.Run.{Line, Manager, Happened, happens, after, Accepted, startOf, isPoll}
 use Rattle.rules.specs.Answers.{isWait}
-use Rattle.waiting.specs.Steps.{CallLine, callLine, pollLine, Moment, account, ended, atCall, next, momentAfter, moveOf, countedFor, butWaiting, tableOf, messagedWith, messagedIn, timesWith, timesIn, pollsIn, heardWithin}
+use Rattle.waiting.specs.Steps.{CallLine, callLine, pollLine, Moment, account, accountEnded, atCall, next, momentAfter, moveOf, countedFor, butWaiting, cellTableOf, messagedWith, messagedIn, timesWith, timesIn, pollsIn, heardWithin}
 
 -- ---- the call's steps
 
@@ -26,7 +26,7 @@ since manager c met later = momentAfter manager (atCall manager c met) later
 
 -- "A call waits from its answer `wait C` to the poll that answers `code N`": until its account has ended
 abbrev pub StillWaits : Moment → Type 0
-StillWaits now = ended now ≡ false
+StillWaits now = accountEnded now ≡ false
 
 -- what is claimed of a step: of what happened, and of the account after it
 abbrev pub OfStep : Type 1
@@ -66,8 +66,8 @@ abbrev pub MovesAsAccount : CallLine → OfStep
 MovesAsAccount c h a = butWaiting (h .after) ≡ butWaiting (moveOf a (cellOf (c .bytes)) (countedFor (h .line .event) (h .before)))
 
 -- "Until its end nothing else changes live cells, phases, CPU owners or pool use": a step with which the effect does not come keeps the table
-abbrev pub TableKept : OfStep
-TableKept h a = a .effect ≡ false → tableOf (h .after) ≡ tableOf (h .before)
+abbrev pub KeepsTable : OfStep
+KeepsTable h a = a .effect ≡ false → cellTableOf (h .after) ≡ cellTableOf (h .before)
 
 -- "Accepting a reply left from an earlier message because from was not cleared": right after its message a cell's `from` is 0
 abbrev pub FromCleared : OfStep
@@ -111,7 +111,7 @@ pub record Bounded (manager : Manager) (c : CallLine) (met : Machine) (later : L
   -- times K polls, if that many follow it in the list": every list `later`, so also the one that ends with the n times K-th poll
   pub ends :
       (k : ℕ) → 1 ≤ k → heardWithin manager k 0 (atCall manager c met) later ≡ true
-      → sizeOfW (account (atCall manager c met)) met * k ≤ pollsIn later → ended (since manager c met later) ≡ true
+      → sizeOfW (account (atCall manager c met)) met * k ≤ pollsIn later → accountEnded (since manager c met later) ≡ true
 
 -- ---- the claim
 
@@ -126,7 +126,7 @@ pub record WaitingCall (manager : Manager) (c : CallLine) (met : Machine) : Type
   -- its effect comes with the step with which the account's comes, once
   pub effect : OwnSteps manager c met (MovesAsAccount c) × EffectOnce manager c met
   -- nothing else changes the table, whatever any CPU does
-  pub frame : OwnSteps manager c met TableKept × OtherSteps manager c met TableKept
+  pub frame : OwnSteps manager c met KeepsTable × OtherSteps manager c met KeepsTable
   -- W, n and K
   pub bound : (later : List Line) → Bounded manager c met later
   -- no reply from before a message is taken

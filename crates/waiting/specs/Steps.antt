@@ -45,8 +45,8 @@ abbrev pub account : Moment → Account
 account now = now .watch .account
 
 -- the account has ended
-abbrev pub ended : Moment → Bool
-ended now = endedAt (now .watch .account .place)
+abbrev pub accountEnded : Moment → Bool
+accountEnded now = endedAt (now .watch .account .place)
 
 -- right after the call, which met the machine `met`
 unfoldable pub atCall : Manager → CallLine → Machine → Moment
@@ -72,11 +72,11 @@ messagedAt (Tells c) m = withComm c (message reconfigCompleted (commAt m c)) m
 messagedAt (Ended code) m = m
 
 -- the account's last move on a machine: the effect's rule, if it came with it, then the message, if it moved. `new` is Create's cell
-unfoldable pub effectOf : Account → CellConfig → Machine → Machine
-effectOf a new m = elim (a .effect) [ true ↦ effect (a .kind) (a .target) new m | false ↦ m ]
+unfoldable pub accountEffect : Account → CellConfig → Machine → Machine
+accountEffect a new m = elim (a .effect) [ true ↦ effect (a .kind) (a .target) new m | false ↦ m ]
 
 unfoldable pub moveOf : Account → CellConfig → Machine → Machine
-moveOf a new m = elim (a .moved) [ true ↦ messagedAt (a .place) (effectOf a new m) | false ↦ effectOf a new m ]
+moveOf a new m = elim (a .moved) [ true ↦ messagedAt (a .place) (accountEffect a new m) | false ↦ accountEffect a new m ]
 
 -- "An obeyed call .. first adds one to its own counter and the total of that CPU"
 unfoldable pub countedFor : Event → Machine → Machine
@@ -92,7 +92,7 @@ abbrev pub butWaiting : Machine → Machine
 butWaiting m = withWaiting NoCall m
 
 -- "live cells, phases, CPU owners or pool use": the table, with whether the machine is on
-pub record Table : Type 0 where
+pub record CellTable : Type 0 where
   pub power : Power
   pub live : ℕ
   pub cells : List Cell
@@ -103,8 +103,8 @@ pub record Table : Type 0 where
 unfoldable pub ownerIn : Cpu → ℕ
 ownerIn p = p .cell
 
-unfoldable pub tableOf : Machine → Table
-tableOf m = record {
+unfoldable pub cellTableOf : Machine → CellTable
+cellTableOf m = record {
   power = m .power;
   live = m .«live_ids»;
   cells = m .cells;
@@ -151,7 +151,7 @@ unfoldable pub heardWithin : Manager → ℕ → ℕ → Moment → List Line �
 heardWithin manager k spent now [] = true
 heardWithin manager k spent now (l ∷ ls) =
     let after = next manager l now in
-    elim (ended now) [
+    elim (accountEnded now) [
       | true ↦ true
       | false ↦ elim (isPoll (l .event)) [
         | true ↦ elim (shows now) [

@@ -8,12 +8,12 @@ use Rattle.lines.proofs.five_words.Tie as tie
 returns : tie.Need-returns
 returns c =
     passed _ _ _ (c .before .if1 .taken)
-    ∙ call-said _ _ _ _ _ _ _ _ _ _ (c .before .before .before .before .before .before .is-word .ensures) (c .before .before .before .before .before .before .before .before .before .before .before .number-of .ensures) (c .before .before .before .before .before .before .before .before .before .before .number32-of .ensures .0) (c .before .before .before .before .before .before .before .before .before .number-of2 .ensures) (c .before .before .before .before .before .before .before .before .number-of3 .ensures)
+    ∙ call-said _ _ _ _ _ _ _ _ _ _ (c .before .before .before .before .before .before .is-word .ensures) (c .before .before .before .before .before .before .before .before .before .before .before .word-number .ensures) (c .before .before .before .before .before .before .before .before .before .before .word32-number .ensures .0) (c .before .before .before .before .before .before .before .before .before .word-number2 .ensures) (c .before .before .before .before .before .before .before .before .word-number3 .ensures)
 
 returns-2 : tie.Need-returns-2
 returns-2 c =
     refused _ _ _ (c .if1 .left)
-    ∙ call-said _ _ _ _ _ _ _ _ _ _ (c .before .before .before .before .before .is-word .ensures) (c .before .before .before .before .before .before .before .before .before .before .number-of .ensures) (c .before .before .before .before .before .before .before .before .before .number32-of .ensures .0) (c .before .before .before .before .before .before .before .before .number-of2 .ensures) (c .before .before .before .before .before .before .before .number-of3 .ensures)
+    ∙ call-said _ _ _ _ _ _ _ _ _ _ (c .before .before .before .before .before .is-word .ensures) (c .before .before .before .before .before .before .before .before .before .before .word-number .ensures) (c .before .before .before .before .before .before .before .before .before .word32-number .ensures .0) (c .before .before .before .before .before .before .before .before .word-number2 .ensures) (c .before .before .before .before .before .before .before .word-number3 .ensures)
 
 pub five-words-spec : {M : Type 1} → statement M
 five-words-spec = tie.close (tie.spec (λ c κs. search needs) (λ c κs. search needs) (λ c κs. search needs) (λ c κs. search needs) (λ c. search needs) (λ c κs. search needs) (λ c. search needs) returns returns-2)

@@ -11,8 +11,8 @@ returns c =
     let word = hex .before .before in
     let cpu = word .before .before in
     record {
-      event = passed _ _ _ (c .if1 .taken) ∙ create-exit-said _ _ _ _ _ _ _ _ (word .is-word .ensures) (cpu .number-of .ensures) (hex .is-hex .ensures) refl refl;
-      create = sym (c .if1 .taken) ∙ create-test _ _ _ _ _ _ (word .is-word .ensures) (cpu .number-of .ensures) (hex .is-hex .ensures);
+      event = passed _ _ _ (c .if1 .taken) ∙ create-exit-said _ _ _ _ _ _ _ _ (word .is-word .ensures) (cpu .word-number .ensures) (hex .is-hex .ensures) refl refl;
+      create = sym (c .if1 .taken) ∙ create-test _ _ _ _ _ _ (word .is-word .ensures) (cpu .word-number .ensures) (hex .is-hex .ensures);
     }
 
 returns-2 : tie.Need-returns-2
@@ -25,8 +25,8 @@ returns-2 c =
     let cpu = word .before .before in
     record {
       event = passed _ _ _ (c .if2 .taken) ∙ refused _ _ _ (other .if1 .left)
-          ∙ create-exit-said _ _ _ _ _ _ _ _ (word .is-word .ensures) (cpu .number-of .ensures) (hex .is-hex .ensures) (exit .is-word2 .ensures) (kind .number-of2 .ensures);
-      create = sym (other .if1 .left) ∙ create-test _ _ _ _ _ _ (word .is-word .ensures) (cpu .number-of .ensures) (hex .is-hex .ensures);
+          ∙ create-exit-said _ _ _ _ _ _ _ _ (word .is-word .ensures) (cpu .word-number .ensures) (hex .is-hex .ensures) (exit .is-word2 .ensures) (kind .word-number2 .ensures);
+      create = sym (other .if1 .left) ∙ create-test _ _ _ _ _ _ (word .is-word .ensures) (cpu .word-number .ensures) (hex .is-hex .ensures);
     }
 
 returns-3 : tie.Need-returns-3
@@ -39,8 +39,8 @@ returns-3 c =
     let cpu = word .before .before in
     record {
       event = refused _ _ _ (c .if2 .left) ∙ refused _ _ _ (other .if1 .left)
-          ∙ create-exit-said _ _ _ _ _ _ _ _ (word .is-word .ensures) (cpu .number-of .ensures) (hex .is-hex .ensures) (exit .is-word2 .ensures) (kind .number-of2 .ensures);
-      create = sym (other .if1 .left) ∙ create-test _ _ _ _ _ _ (word .is-word .ensures) (cpu .number-of .ensures) (hex .is-hex .ensures);
+          ∙ create-exit-said _ _ _ _ _ _ _ _ (word .is-word .ensures) (cpu .word-number .ensures) (hex .is-hex .ensures) (exit .is-word2 .ensures) (kind .word-number2 .ensures);
+      create = sym (other .if1 .left) ∙ create-test _ _ _ _ _ _ (word .is-word .ensures) (cpu .word-number .ensures) (hex .is-hex .ensures);
     }
 
 pub three-words-spec : {M : Type 1} → statement M

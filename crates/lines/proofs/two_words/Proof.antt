@@ -6,10 +6,10 @@ use Rattle.lines.proofs.two_words.Statement.{statement}
 use Rattle.lines.proofs.two_words.Tie as tie
 
 returns : tie.Need-returns
-returns c = passed _ _ _ (c .if1 .taken) ∙ fault-said _ _ _ _ (c .before .before .is-word .ensures) (c .before .before .before .before .number-of .ensures)
+returns c = passed _ _ _ (c .if1 .taken) ∙ fault-said _ _ _ _ (c .before .before .is-word .ensures) (c .before .before .before .before .word-number .ensures)
 
 returns-2 : tie.Need-returns-2
-returns-2 c = refused _ _ _ (c .if1 .left) ∙ fault-said _ _ _ _ (c .before .before .is-word .ensures) (c .before .before .before .before .number-of .ensures)
+returns-2 c = refused _ _ _ (c .if1 .left) ∙ fault-said _ _ _ _ (c .before .before .is-word .ensures) (c .before .before .before .before .word-number .ensures)
 
 pub two-words-spec : {M : Type 1} → statement M
 two-words-spec = tie.close (tie.spec (λ c κs. search needs) (λ c. search needs) (λ c κs. search needs) returns returns-2)

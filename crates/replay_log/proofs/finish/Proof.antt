@@ -8,7 +8,7 @@ use borrow.Author.Needs.{needs, length-unmapped}
 use Rattle.machine_state.specs.declared.Event.{Event}
 use Rattle.rules.specs.Step.{step}
 use Rattle.texts.specs.Texts.{putLine, putCount}
-use Rattle.replay_log.specs.Feed.{goingOf, finished, keptBytes}
+use Rattle.replay_log.specs.Feed.{goingOf, textAtEnd, keptBytes}
 use Rattle.replay_log.proofs.Buffers.{kept-bytes, whole-part, record-read, put-none}
 use Rattle.replay_log.proofs.Laws.{going, end-none, end-some}
 use Rattle.replay_log.proofs.finish.Statement.{statement}
@@ -59,7 +59,7 @@ returns-2 c =
     let isStep = s .ensures ∙ ap₂ (λ (x : Event) (bytes : List ℕ). step x bytes (k .machine)) (r .ensures .event)
     (whole-part (r .result .len) (r .last .1 .0) ∙ record-read line _ (r .last .1 .0) (r .result .len) refl (r .ensures .size) (r .ensures .bytes)) in
     let more = some (k .line) (n .result) (inside (length (k .line)) (k .len) (n .result) size (n .ensures)) (some-kept .if1 .left) in
-    let fin = ap (λ (b : List ℕ). finished (going (k .machine) b [])) (sym isLine)
+    let fin = ap (λ (b : List ℕ). textAtEnd (going (k .machine) b [])) (sym isLine)
     ∙ end-some (k .machine) line (subst (λ (b : List ℕ). 0 < length b) (sym (whole-part (n .result) (k .line))) more) (s .result) isStep in
     subst (λ (t : List ℕ). (u .result ≡ putCount 32 t (a .out .now)) × (u .last .1 .0 ≡ putLine 32 t (a .out .now))) (sym fin) (u .ensures)
 
