@@ -1,25 +1,34 @@
--- The room of the pool, counted without a sum that could wrap; and what an admission that follows Create's rows says of its call. Assumes nothing.
-use mathlib.Core.Path.{_≡_, sym, subst}
+-- The room of the pool, counted without a sum that could wrap; and what the code of Create's rows, or an admission that follows them, says of its
+-- call: rows with codes, carried out, are the rows of the call. Assumes nothing.
+use mathlib.Core.Path.{_≡_, refl, sym, ap, _∙_}
 use Prim.Native.Nat.{ℕ, suc, _+_, _-_, _<_, _≤_}
 use native.Mathlib.Omega.{arith}
 use borrow.Author.Tests.{lt-ltb}
-use mathlib.Core.Bool.{Bool, true, not, _&&_, _||_}
+use mathlib.Core.Bool.{Bool, true, false, not, _&&_, _||_}
 use lib.Dec.{ltb}
+use lib.IntN.{ℤ, pos, negsuc}
+use mir.Syntax.{w32}
+use mir.Val.{ofZ}
 use Rattle.base.proofs.Tests.{equal-leb}
-use mathlib.Core.List.{List}
+use mathlib.Core.List.{List, [], _∷_, map}
+use Rattle.base.specs.Rules.{Refusal, firstRule, _⇒_, EPERM, E2BIG, ENOMEM, EBUSY, EEXIST, EINVAL}
+use Rattle.base.proofs.Rules.{by-rule, by-none}
 use Rattle.cpu_set.specs.CpuSet.{subset}
 use Rattle.system_record.specs.declared.SystemConfig.{SystemConfig}
 use Rattle.cell_record.specs.declared.CellConfig.{CellConfig}
 use Rattle.cell_record.specs.CellRecord.{cellOf, cellForm, cellValid}
 use Rattle.machine_state.specs.declared.CallKind.the-variants.{Create}
 use Rattle.machine_state.specs.declared.Machine.{Machine}
-use Rattle.rules.specs.Create.{invalid, freeId}
+use Rattle.machine_state.specs.declared.Stepped.{Stepped}
+use Rattle.rules.specs.Create.{someCellLocked, tooLong, invalid, nameInUse, busy, freeId, noRoom}
 use Rattle.rules.specs.Effects.{poolCost}
 use Rattle.rules.specs.Asking.{ask}
-use Rattle.rules.specs.Calls.{createCall}
+use Rattle.rules.specs.Calls.{createCall, ends}
+use Rattle.machine_state.specs.declared.Answer.the-variants.{Code}
 use Rattle.unobeyed.specs.declared.Admission.{Admission}
+use Rattle.unobeyed.specs.declared.Admission.the-variants.{Admitted, Refused}
 use Rattle.unobeyed.specs.Admission.{admitted, Follows}
-use Rattle.create_rules.specs.Rows.{newRows, createRows}
+use Rattle.create_rules.specs.Rows.{createRows, createCode}
 
 pub no-pages : (pages used count : ℕ) → pages < used + 2 → true ≡ ltb pages (used + poolCost count)
 no-pages pages used count h = sym (lt-ltb pages (used + poolCost count) (omega arith))
@@ -33,12 +42,109 @@ pub invalid-is : (bytes : List ℕ) (m : Machine) (system : SystemConfig) (new :
 unfolding invalid
 invalid-is bytes m system new form valid inside s n f v i = rw (f, v, i, n, s)
 
-pub of-record : (r : Admission) (caller : ℕ) (new : CellConfig) (bytes : List ℕ) (m : Machine) → new ≡ cellOf bytes → Follows r (newRows caller new m) m
-    → Follows r (newRows caller (cellOf bytes) m) m
-of-record r caller new bytes m e f = subst (λ (x : CellConfig). Follows r (newRows caller x m) m) e f
+pub busy-is : (caller : ℕ) (new : CellConfig) (bytes : List ℕ) (m : Machine) → new ≡ cellOf bytes → busy caller (cellOf bytes) m ≡ busy caller new m
+busy-is caller new bytes m e = ap (λ (x : CellConfig). busy caller x m) (sym e)
 
 -- an admission that follows Create's rows is its call: the refusal, or what comes where there is none
 pub create-follows : (r : Admission) (caller : ℕ) (bytes : List ℕ) (m : Machine) → Follows r (createRows caller bytes m) m
     → admitted r (ask Create (freeId m) 0 (cellOf bytes) m) m ≡ createCall caller bytes m
 unfolding createCall
 create-follows r caller bytes m f = f (ask Create (freeId m) 0 (cellOf bytes) m)
+
+-- ---- the call, by the code that its rows give
+
+-- what a table gives, carried on, is what the table of the same rows carried on gives
+carried-rows : {A B : Type 0} (f : A → B) (rows : List (Refusal A)) (otherwise : A)
+    → f (firstRule rows otherwise) ≡ firstRule (map (λ r. r .when ⇒ f (r .code)) rows) (f otherwise)
+unfolding firstRule
+carried-rows f [] otherwise = refl
+carried-rows f (r ∷ rows) otherwise = go (r .when) refl (carried-rows f rows otherwise)
+  where
+    go : (b : Bool) → r .when ≡ b → f (firstRule rows otherwise) ≡ firstRule (map (λ s. s .when ⇒ f (s .code)) rows) (f otherwise)
+        → f (firstRule (r ∷ rows) otherwise) ≡ firstRule (map (λ s. s .when ⇒ f (s .code)) (r ∷ rows)) (f otherwise)
+    go true e q = rw (e, firstRule)
+    go false e q = rw (e, firstRule) q
+
+-- a code carried out: a negative one ends the call
+unfoldable carriedOut : Machine → Stepped → ℤ → Stepped
+carriedOut m otherwise (pos n) = otherwise
+carriedOut m otherwise (negsuc n) = ends (negsuc n) m
+
+module _ (caller : ℕ) (bytes : List ℕ) (m : Machine) where
+  -- what comes where Create is not refused
+  abbrev asked : Stepped
+  asked = ask Create (freeId m) 0 (cellOf bytes) m
+
+  carried-create : (otherwise : Stepped) → carriedOut m otherwise (createCode caller bytes m) ≡ firstRule (createRows caller bytes m) otherwise
+  unfolding createCode carriedOut
+  carried-create otherwise =
+      carried-rows (carriedOut m otherwise)
+      ((someCellLocked m ⇒ EPERM)
+      ∷ (tooLong bytes ⇒ E2BIG)
+      ∷ (invalid bytes m ⇒ EINVAL)
+      ∷ (nameInUse (cellOf bytes .name) m ⇒ EEXIST)
+      ∷ (busy caller (cellOf bytes) m ⇒ EBUSY)
+      ∷ (noRoom (cellOf bytes) m ⇒ ENOMEM)
+      ∷ [])
+      (pos 0)
+
+  carried-call : createCall caller bytes m ≡ carriedOut m asked (createCode caller bytes m)
+  unfolding createCall
+  carried-call = sym (carried-create asked)
+
+  pub create-refused : (n : ℕ) → createCode caller bytes m ≡ negsuc n → createCall caller bytes m ≡ ends (negsuc n) m
+  unfolding carriedOut
+  create-refused n e = carried-call ∙ ap (carriedOut m asked) e
+
+  pub create-admitted : createCode caller bytes m ≡ pos 0 → createCall caller bytes m ≡ ask Create (freeId m) 0 (cellOf bytes) m
+  unfolding carriedOut
+  create-admitted e = carried-call ∙ ap (carriedOut m asked) e
+
+  -- what holds of 0 and of each code of a row holds of the code
+  by-code : (P : ℤ → Type 0) → P EPERM → P E2BIG → P EINVAL → P EEXIST → P EBUSY → P ENOMEM → P (pos 0) → P (createCode caller bytes m)
+  unfolding createCode
+  by-code P locked long broken named held full zero =
+      by-rule P (someCellLocked m ⇒ EPERM) _ _ (λ e. locked)
+      (λ e. by-rule P (tooLong bytes ⇒ E2BIG) _ _ (λ e. long)
+      (λ e. by-rule P (invalid bytes m ⇒ EINVAL) _ _ (λ e. broken)
+      (λ e. by-rule P (nameInUse (cellOf bytes .name) m ⇒ EEXIST) _ _ (λ e. named)
+      (λ e. by-rule P (busy caller (cellOf bytes) m ⇒ EBUSY) _ _ (λ e. held)
+      (λ e. by-rule P (noRoom (cellOf bytes) m ⇒ ENOMEM) _ _ (λ e. full) (λ e. by-none P _ zero))))))
+
+  -- a code is told from 0 by its bits: one with the bits of 0 is 0, and any other is carried out as the call's end
+  module _ (code : ℤ) (e : code ≡ createCode caller bytes m) where
+    zero-code : ofZ w32 code ≡ 0 → createCode caller bytes m ≡ pos 0
+    zero-code zero =
+        by-code (λ z. ofZ w32 z ≡ 0 → z ≡ pos 0) (λ f. absurd (omega arith)) (λ f. absurd (omega arith)) (λ f. absurd (omega arith))
+        (λ f. absurd (omega arith)) (λ f. absurd (omega arith)) (λ f. absurd (omega arith)) (λ f. refl) (ap (ofZ w32) (sym e) ∙ zero)
+
+    ending : (ofZ w32 code ≡ 0 → ⊥) → (otherwise : Stepped) → carriedOut m otherwise (createCode caller bytes m) ≡ ends code m
+    unfolding carriedOut
+    ending n otherwise =
+        by-code (λ z. (ofZ w32 z ≡ 0 → ⊥) → carriedOut m otherwise z ≡ ends z m) (λ f. refl) (λ f. refl) (λ f. refl) (λ f. refl) (λ f. refl) (λ f. refl)
+        (λ f. absurd (f refl)) (λ z. n (ap (ofZ w32) e ∙ z))
+        ∙ ap (λ (z : ℤ). ends z m) (sym e)
+
+    pub code-admits : ofZ w32 code ≡ 0 → createCall caller bytes m ≡ ask Create (freeId m) 0 (cellOf bytes) m
+    code-admits zero = create-admitted (zero-code zero)
+
+    pub code-refuses : (ofZ w32 code ≡ 0 → ⊥) → createCall caller bytes m ≡ ends code m
+    code-refuses n = carried-call ∙ ending n asked
+
+    -- an admission by the code follows Create's rows
+    pub admits-follow : ofZ w32 code ≡ 0 → Follows Admitted (createRows caller bytes m) m
+    unfolding admitted carriedOut
+    admits-follow zero otherwise = sym (ap (carriedOut m otherwise) (zero-code zero)) ∙ carried-create otherwise
+
+    pub refuses-follow : (ofZ w32 code ≡ 0 → ⊥) → Follows (Refused (Code code)) (createRows caller bytes m) m
+    unfolding admitted
+    refuses-follow n otherwise = sym (ending n otherwise) ∙ carried-create otherwise
+
+  -- a code is 0 or negative
+  pub code-not-positive : (n : ℕ) → createCode caller bytes m ≡ pos (suc n) → ⊥
+  code-not-positive n =
+      by-code (λ z. z ≡ pos (suc n) → ⊥) (λ e. apart e) (λ e. apart e) (λ e. apart e) (λ e. apart e) (λ e. apart e) (λ e. apart e)
+      (λ e. let z : _≡_ {A = ℕ} 0 (suc n) = cc in omega arith)
+    where
+      apart : {k : ℕ} → negsuc k ≡ pos (suc n) → ⊥
+      apart e = let z : _≡_ {A = ℕ} 0 1 = cc in omega arith

@@ -9,7 +9,7 @@ ghost use Rattle.machine_state.specs.declared.Machine.{Machine};
 ghost use Rattle.rules.specs.Create.{nameInUse, conflict as conflict-of, conflicts as conflicts-of, regionInUse, busy, noRoom};
 ghost use Rattle.rules.specs.Effects.{poolCost};
 ghost use Rattle.unobeyed.specs.Admission.{Follows};
-ghost use Rattle.create_rules.specs.Rows.{newRows, createRows};
+ghost use Rattle.create_rules.specs.Rows.{createRows, createCode};
 use base::E2BIG;
 use base::EBUSY;
 use base::EEXIST;
@@ -139,31 +139,44 @@ fn no_room(pages: u32, pool_used: u32, live_ids: u16, new: CellConfig) -> bool
     (comms::free_id(live_ids) == MAX_CELLS) | lacks_pages(pages, pool_used, new.region_count)
 }
 
-// The refusals of a record that keeps its own rules: a name or something else that is in use, no
-// room.
-fn admit_new(
-    root: [u8; 32],
-    pages: u32,
+// The code with which Create is refused, 0 where it is not: its rules in their order.
+pub fn refusal(
+    system: SystemConfig,
     pool_used: u32,
     live_ids: u16,
     root_cpus: u64,
     cells: [Cell; MAX_CELLS],
+    comms: [CommRegion; MAX_CELLS],
     caller: u64,
-    new: CellConfig,
-) -> Admission
-    ensures { λ r. ⌜ ((m : Machine) → m .system .name ≡ root → m .system .pool .pages ≡ pages → m .«pool_used» ≡ «pool_used» → m .«live_ids» ≡ «live_ids» → m .«root_cpus» ≡ «root_cpus» → m .cells ≡ cells → Follows r (newRows caller new m) m) ⌝ }
+    record: &[u8],
+) -> i32
+    ensures { λ r. ⌜ ((m : Machine) → m .system ≡ system → m .«pool_used» ≡ «pool_used» → m .«live_ids» ≡ «live_ids» → m .«root_cpus» ≡ «root_cpus» → m .cells ≡ cells → m .comms ≡ comms → r ≡ createCode caller (now («record» .entry)) m) ⌝ }
 {
+    if comms::is_locked_but(live_ids, comms, 0) {
+        return EPERM;
+    }
+    if cell_record::MAX_LENGTH < record.len() {
+        return E2BIG;
+    }
+    let new = cell_record::cell_of(record);
+    if !(cell_record::cell_form(record) & cell_record::cell_valid(system, new))
+        | !cpu_set::is_subset(new.cpus, system.cpus)
+    {
+        return EINVAL;
+    }
+    let root = system.name;
     let name = new.name;
     if name_in_use(root, live_ids, cells, name) {
-        return Admission::Refused(Answer::Code(EEXIST));
+        return EEXIST;
     }
     if is_busy(live_ids, root_cpus, cells, caller, new) {
-        return Admission::Refused(Answer::Code(EBUSY));
+        return EBUSY;
     }
-    if no_room(pages, pool_used, live_ids, new) {
-        return Admission::Refused(Answer::Code(ENOMEM));
+    let pool = system.pool;
+    if no_room(pool.pages, pool_used, live_ids, new) {
+        return ENOMEM;
     }
-    Admission::Admitted
+    0
 }
 
 // Create's refusals, in their order.
@@ -179,28 +192,18 @@ pub fn admit_create(
 ) -> Admission
     ensures { λ r. ⌜ ((m : Machine) → m .system ≡ system → m .«pool_used» ≡ «pool_used» → m .«live_ids» ≡ «live_ids» → m .«root_cpus» ≡ «root_cpus» → m .cells ≡ cells → m .comms ≡ comms → Follows r (createRows caller (now («record» .entry)) m) m) ⌝ }
 {
-    if comms::is_locked_but(live_ids, comms, 0) {
-        return Admission::Refused(Answer::Code(EPERM));
-    }
-    if cell_record::MAX_LENGTH < record.len() {
-        return Admission::Refused(Answer::Code(E2BIG));
-    }
-    let new = cell_record::cell_of(record);
-    if !(cell_record::cell_form(record) & cell_record::cell_valid(system, new))
-        | !cpu_set::is_subset(new.cpus, system.cpus)
-    {
-        return Admission::Refused(Answer::Code(EINVAL));
-    }
-    let root = system.name;
-    let pool = system.pool;
-    admit_new(
-        root,
-        pool.pages,
+    let code = refusal(
+        system,
         pool_used,
         live_ids,
         root_cpus,
         cells,
+        comms,
         caller,
-        new,
-    )
+        record,
+    );
+    if code == 0 {
+        return Admission::Admitted;
+    }
+    Admission::Refused(Answer::Code(code))
 }
