@@ -1,8 +1,13 @@
-// The cell record: its values, its rules, and what it makes Create answer.
+// The cell record: its values, its rules, and what it makes Create answer. The rules look at the
+// record's bytes.
 ghost use mathlib.Core.Path.{_≡_};
-ghost use lib.ListN.{take};
-ghost use Rattle.base.specs.Lists.{all};
-ghost use Rattle.cell_record.specs.CellRecord.{cellOf, cellForm, cellRegionOk, cellValid, cellAnswer, readCell};
+ghost use mathlib.Core.Bool.{_&&_};
+ghost use Prim.Native.Nat.{min};
+ghost use Rattle.base.specs.Lists.{all, any};
+ghost use Rattle.fields.specs.Fields.{u16 as u16-of};
+ghost use Rattle.regions.specs.Regions.{comm};
+ghost use Rattle.region_table.specs.Tables.{maxRegions, regionAt};
+ghost use Rattle.cell_record.specs.CellRecord.{cellOf, cellForm, cellRegions, cellRegionOk, cellValid, cellAnswer, readCell};
 use base::E2BIG;
 use base::EINVAL;
 use region_table::MAX_REGIONS;
@@ -27,12 +32,19 @@ pub struct CellRead {
     pub config: CellConfig,
 }
 
+// The name that stands in a record.
+pub fn name(s: &[u8]) -> [u8; 32]
+    ensures { λ r. ⌜ r ≡ cellOf (now (s .entry)) .name ⌝ }
+{
+    fields::name_of(fields::part(s, 8, 32))
+}
+
 // The values of a record, whatever its bytes.
 pub fn cell_of(s: &[u8]) -> CellConfig
     ensures { λ r. ⌜ r ≡ cellOf (now (s .entry)) ⌝ }
 {
     let count = fields::u16_at(s, 48) as usize;
-    let name = fields::name_of(fields::part(s, 8, 32));
+    let name = name(s);
     let regions = region_table::table_of(s, 56, count);
     CellConfig {
         name,
@@ -57,56 +69,99 @@ pub fn cell_form(s: &[u8]) -> bool
         & (s.len() == 56 + 32 * n)
 }
 
+// How many regions of the record there are: those that its count names, as many as a table holds.
+pub fn region_count(s: &[u8]) -> u16
+    ensures { λ r. ⌜ r ≡ min (u16-of 48 (now (s .entry))) maxRegions ⌝ }
+{
+    let n = fields::u16_at(s, 48);
+    if (n as usize) < MAX_REGIONS {
+        n
+    } else {
+        MAX_REGIONS as u16
+    }
+}
+
+// Region `i` of the record.
+pub fn region(s: &[u8], i: u16) -> MemRegion
+    ensures { λ r. ⌜ r ≡ regionAt 56 (now (s .entry)) i ⌝ }
+{
+    region_table::region_at(s, 56 + 32 * i as usize)
+}
+
 // Whether a cell's region keeps its rules in the booted system.
 pub fn cell_region_ok(boot: SystemConfig, r: MemRegion) -> bool
     ensures { λ q. ⌜ q ≡ cellRegionOk boot r ⌝ }
 {
     let hypervisor = boot.hypervisor;
-    let table = boot.regions;
-    regions::is_placed(r)
+    let ok = regions::is_placed(r)
         & regions::flags_ok(r)
         & regions::comm_ok(r)
-        & regions::clear_of(hypervisor.start, hypervisor.size, r)
-        & (!(regions::is_loadable(r) | regions::is_shared(r))
-            | region_table::inside_one(r, table, boot.region_count))
+        & regions::clear_of(hypervisor.start, hypervisor.size, r);
+    if !(regions::is_loadable(r) | regions::is_shared(r)) {
+        return ok;
+    }
+    let table = boot.regions;
+    ok & region_table::inside_one(r, table, boot.region_count)
 }
 
-// Whether the first `count` regions of a table each keep a cell region's rules.
-fn cell_regions_ok(boot: SystemConfig, table: [MemRegion; MAX_REGIONS], count: usize) -> bool
-    ensures { λ q. ⌜ q ≡ all (cellRegionOk boot) (take count table) ⌝ }
+// Whether the record's regions each keep a cell region's rules.
+fn regions_ok(boot: SystemConfig, s: &[u8]) -> bool
+    ensures { λ q. ⌜ q ≡ all (cellRegionOk boot) (cellRegions (cellOf (now (s .entry)))) ⌝ }
 {
-    let n = region_table::used(count);
+    let n = region_count(s);
     let mut ok = true;
-    let mut i = 0;
+    let mut i = 0u16;
     while i < n {
-        ok = ok & cell_region_ok(boot, table[i]);
+        ok = ok & cell_region_ok(boot, region(s, i));
         i += 1;
     }
     ok
 }
 
-// Whether the values keep every rule on them in the booted system.
-pub fn cell_valid(boot: SystemConfig, c: CellConfig) -> bool
-    ensures { λ q. ⌜ q ≡ cellValid boot c ⌝ }
+// Whether some region of the record is a communication region.
+pub fn has_comm(s: &[u8]) -> bool
+    ensures { λ q. ⌜ q ≡ any comm (cellRegions (cellOf (now (s .entry)))) ⌝ }
 {
-    let name = c.name;
-    let regions = c.regions;
-    fields::is_name(&name)
-        & !cpu_set::is_empty(c.cpus)
-        & cell_regions_ok(boot, regions, c.region_count)
-        & region_table::all_apart(regions, c.region_count)
-        & (region_table::has_comm(regions, c.region_count) | c.passive)
+    let n = region_count(s);
+    let mut found = false;
+    let mut i = 0u16;
+    while i < n {
+        found = found | regions::is_comm(region(s, i));
+        i += 1;
+    }
+    found
 }
 
-// The answer to a record that holds these values.
-fn cell_answer(boot: SystemConfig, s: &[u8], c: CellConfig) -> i32
-    requires { ⌜ c ≡ cellOf (now s) ⌝ }
+// Whether the record's values keep every rule on them in the booted system.
+pub fn cell_valid(boot: SystemConfig, s: &[u8]) -> bool
+    ensures { λ q. ⌜ q ≡ cellValid boot (cellOf (now (s .entry))) ⌝ }
+{
+    let name = name(s);
+    fields::is_name(&name)
+        & !cpu_set::is_empty(fields::u64_at(s, 40))
+        & regions_ok(boot, s)
+        & region_table::all_apart(s, 56, region_count(s))
+        & (has_comm(s) | (fields::u16_at(s, 6) % 2 == 1))
+}
+
+// Whether the record has its form and keeps every rule in the booted system.
+pub fn is_valid(boot: SystemConfig, s: &[u8]) -> bool
+    ensures { λ q. ⌜ q ≡ (cellForm (now (s .entry)) && cellValid boot (cellOf (now (s .entry)))) ⌝ }
+{
+    if !cell_form(s) {
+        return false;
+    }
+    cell_valid(boot, s)
+}
+
+// What the record itself makes Create answer.
+fn cell_answer(boot: SystemConfig, s: &[u8]) -> i32
     ensures { λ q. ⌜ q ≡ cellAnswer boot (now (s .entry)) ⌝ }
 {
     if MAX_LENGTH < s.len() {
         return E2BIG;
     }
-    if !(cell_form(s) & cell_valid(boot, c)) {
+    if !is_valid(boot, s) {
         return EINVAL;
     }
     0
@@ -118,6 +173,6 @@ pub fn read_cell(boot: SystemConfig, s: &[u8]) -> CellRead
     ensures { λ r. ⌜ r ≡ readCell boot (now (s .entry)) ⌝ }
 {
     let config = cell_of(s);
-    let code = cell_answer(boot, s, config);
+    let code = cell_answer(boot, s);
     CellRead { code, config }
 }

@@ -1,26 +1,31 @@
 -- The room of the pool, counted without a sum that could wrap; and what the code of Create's rows, or an admission that follows them, says of its
 -- call: rows with codes, carried out, are the rows of the call. Assumes nothing.
-use mathlib.Core.Path.{_≡_, refl, sym, ap, _∙_}
+use mathlib.Core.Path.{_≡_, refl, sym, ap, ap₂, _∙_}
 use Prim.Native.Nat.{ℕ, suc, _+_, _-_, _<_, _≤_}
 use native.Mathlib.Omega.{arith}
 use borrow.Author.Tests.{lt-ltb}
 use mathlib.Core.Bool.{Bool, true, false, not, _&&_, _||_}
-use lib.Dec.{ltb}
+use lib.Dec.{ltb, eqb}
+use lib.ListN.{take}
 use lib.IntN.{ℤ, pos, negsuc}
 use mir.Syntax.{w32}
 use mir.Val.{ofZ}
-use Rattle.base.proofs.Tests.{equal-leb}
+use Rattle.base.specs.Lists.{any, same}
+use Rattle.base.proofs.Tests.{equal-leb, holds, fails}
 use mathlib.Core.List.{List, [], _∷_, map}
 use Rattle.base.specs.Rules.{Refusal, firstRule, _⇒_, EPERM, E2BIG, ENOMEM, EBUSY, EEXIST, EINVAL}
 use Rattle.base.proofs.Rules.{by-rule, by-none}
-use Rattle.cpu_set.specs.CpuSet.{subset}
+use Rattle.cpu_set.specs.CpuSet.{member, subset}
 use Rattle.system_record.specs.declared.SystemConfig.{SystemConfig}
 use Rattle.cell_record.specs.declared.CellConfig.{CellConfig}
-use Rattle.cell_record.specs.CellRecord.{cellOf, cellForm, cellValid}
+use Rattle.cell_record.specs.CellRecord.{cellOf, cellForm, cellRegions, cellValid}
+use Rattle.machine_state.specs.declared.Cell.{Cell}
 use Rattle.machine_state.specs.declared.CallKind.the-variants.{Create}
 use Rattle.machine_state.specs.declared.Machine.{Machine}
 use Rattle.machine_state.specs.declared.Stepped.{Stepped}
-use Rattle.rules.specs.Create.{someCellLocked, tooLong, invalid, nameInUse, busy, freeId, noRoom}
+use Rattle.machine_state.specs.Machine.{cellIn}
+use Rattle.rules.specs.State.{hasId, cellIds}
+use Rattle.rules.specs.Create.{someCellLocked, tooLong, invalid, nameInUse, conflicts, regionInUse, busy, freeId, noRoom}
 use Rattle.rules.specs.Effects.{poolCost}
 use Rattle.rules.specs.Asking.{ask}
 use Rattle.rules.specs.Calls.{createCall, ends}
@@ -28,7 +33,7 @@ use Rattle.machine_state.specs.declared.Answer.the-variants.{Code}
 use Rattle.unobeyed.specs.declared.Admission.{Admission}
 use Rattle.unobeyed.specs.declared.Admission.the-variants.{Admitted, Refused}
 use Rattle.unobeyed.specs.Admission.{admitted, Follows}
-use Rattle.create_rules.specs.Rows.{createRows, createCode}
+use Rattle.create_rules.specs.Rows.{useCode, createRows, createCode}
 
 pub no-pages : (pages used count : ℕ) → pages < used + 2 → true ≡ ltb pages (used + poolCost count)
 no-pages pages used count h = sym (lt-ltb pages (used + poolCost count) (omega arith))
@@ -36,14 +41,66 @@ no-pages pages used count h = sym (lt-ltb pages (used + poolCost count) (omega a
 pub pages-left : (pages used count : ℕ) → used + 2 ≤ pages → ltb (pages - (used + 2)) count ≡ ltb pages (used + poolCost count)
 pages-left pages used count h = equal-leb (suc (pages - (used + 2))) count (suc pages) (used + poolCost count) (λ q. omega arith) (λ q. omega arith)
 
--- what is found of a record makes it invalid
-pub invalid-is : (bytes : List ℕ) (m : Machine) (system : SystemConfig) (new : CellConfig) (form valid inside : Bool) → m .system ≡ system → new ≡ cellOf bytes
-    → form ≡ cellForm bytes → valid ≡ cellValid system new → inside ≡ subset (new .cpus) (system .cpus) → invalid bytes m ≡ (not (form && valid) || not inside)
-unfolding invalid
-invalid-is bytes m system new form valid inside s n f v i = rw (f, v, i, n, s)
+-- ---- the rules, by what is found of the machine's parts and of the record's bytes
 
-pub busy-is : (caller : ℕ) (new : CellConfig) (bytes : List ℕ) (m : Machine) → new ≡ cellOf bytes → busy caller (cellOf bytes) m ≡ busy caller new m
-busy-is caller new bytes m e = ap (λ (x : CellConfig). busy caller x m) (sym e)
+pub invalid-is : (bytes : List ℕ) (m : Machine) (system : SystemConfig) (cpus : ℕ) (valid inside : Bool) → m .system ≡ system → cpus ≡ cellOf bytes .cpus
+    → valid ≡ (cellForm bytes && cellValid system (cellOf bytes)) → inside ≡ subset cpus (system .cpus) → invalid bytes m ≡ (not valid || not inside)
+unfolding invalid
+invalid-is bytes m system cpus valid inside s c v i = rw (v, i, c, s)
+
+pub live-is : (found live has x : Bool) → found ≡ (live && x) → live ≡ has → found ≡ (has && x)
+live-is found live has x f l = f ∙ ap (λ (b : Bool). b && x) l
+
+module _ (m : Machine) (used : ℕ) (cells : List Cell) (ids : m .«live_ids» ≡ used) (table : m .cells ≡ cells) where
+  pub name-is : (root name : List ℕ) (own found : Bool) → m .system .name ≡ root → own ≡ same root name
+      → found ≡ any (λ id. hasId used id && same (cellIn cells id .name) name) cellIds → nameInUse name m ≡ (own || found)
+  unfolding nameInUse
+  name-is root name own found n o f = sym (rw (n, ids, table) (ap₂ (λ (a b : Bool). a || b) o f))
+
+  pub busy-is : (caller : ℕ) (new : CellConfig) (cpus rootCpus : ℕ) (wanted inside found : Bool) → m .«root_cpus» ≡ rootCpus → cpus ≡ new .cpus
+      → wanted ≡ member caller cpus → inside ≡ subset cpus rootCpus
+      → found ≡ any (λ id. hasId used id && conflicts (take (cellIn cells id .«region_count») (cellIn cells id .regions)) (cellRegions new)) cellIds
+      → busy caller new m ≡ (wanted || not inside || found)
+  unfolding busy regionInUse
+  busy-is caller new cpus rootCpus wanted inside found r c w i f = rw (ids, table, r, w, i, f, c)
+
+-- the last row comes where the two before it give 0
+full-row : (named held full : Bool) → (eqb (ofZ w32 (firstRule ((named ⇒ EEXIST) ∷ (held ⇒ EBUSY) ∷ []) (pos 0))) 0 && full) ≡ true
+    → ENOMEM ≡ firstRule ((named ⇒ EEXIST) ∷ (held ⇒ EBUSY) ∷ (full ⇒ ENOMEM) ∷ []) (pos 0)
+unfolding firstRule
+full-row true held full t = absurd (holds t)
+full-row false true full t = absurd (holds t)
+full-row false false true t = refl
+full-row false false false t = absurd (holds t)
+
+other-row : (named held full : Bool) → (eqb (ofZ w32 (firstRule ((named ⇒ EEXIST) ∷ (held ⇒ EBUSY) ∷ []) (pos 0))) 0 && full) ≡ false
+    → firstRule ((named ⇒ EEXIST) ∷ (held ⇒ EBUSY) ∷ []) (pos 0) ≡ firstRule ((named ⇒ EEXIST) ∷ (held ⇒ EBUSY) ∷ (full ⇒ ENOMEM) ∷ []) (pos 0)
+unfolding firstRule
+other-row true held full t = refl
+other-row false true full t = refl
+other-row false false true t = absurd (fails t tt)
+other-row false false false t = refl
+
+module _ (caller : ℕ) (bytes : List ℕ) (m : Machine) (code : ℤ) (full : Bool) (used-is : code ≡ useCode caller bytes m) (full-is : full ≡ noRoom (cellOf bytes) m) where
+  abbrev rest : ℤ
+  rest =
+      firstRule
+      ((nameInUse (cellOf bytes .name) m ⇒ EEXIST)
+      ∷ (busy caller (cellOf bytes) m ⇒ EBUSY)
+      ∷ (noRoom (cellOf bytes) m ⇒ ENOMEM)
+      ∷ [])
+      (pos 0)
+
+  test-is : (eqb (ofZ w32 code) 0 && full) ≡ (eqb (ofZ w32 (useCode caller bytes m)) 0 && noRoom (cellOf bytes) m)
+  test-is = ap₂ (λ (z : ℤ) (b : Bool). eqb (ofZ w32 z) 0 && b) used-is full-is
+
+  pub full-code : (eqb (ofZ w32 code) 0 && full) ≡ true → ENOMEM ≡ rest
+  unfolding useCode
+  full-code t = full-row (nameInUse (cellOf bytes .name) m) (busy caller (cellOf bytes) m) (noRoom (cellOf bytes) m) (sym test-is ∙ t)
+
+  pub use-code : (eqb (ofZ w32 code) 0 && full) ≡ false → code ≡ rest
+  unfolding useCode
+  use-code t = used-is ∙ other-row (nameInUse (cellOf bytes .name) m) (busy caller (cellOf bytes) m) (noRoom (cellOf bytes) m) (sym test-is ∙ t)
 
 -- an admission that follows Create's rows is its call: the refusal, or what comes where there is none
 pub create-follows : (r : Admission) (caller : ℕ) (bytes : List ℕ) (m : Machine) → Follows r (createRows caller bytes m) m

@@ -9,6 +9,10 @@ use Rattle.machine_state.specs.declared.Stepped.{Stepped}
 use Rattle.rules.specs.Create.{someCellLocked, tooLong, invalid, nameInUse, busy, noRoom}
 use Rattle.rules.specs.Calls.{ends}
 
+-- the code where the name, or a CPU or a region that the new cell wants, is in use, and 0 where none is
+unfoldable pub useCode : ℕ → List ℕ → Machine → ℤ
+useCode caller bytes m = firstRule ((nameInUse (cellOf bytes .name) m ⇒ EEXIST) ∷ (busy caller (cellOf bytes) m ⇒ EBUSY) ∷ []) (pos 0)
+
 -- the code with which Create is refused, and 0 where it is not
 unfoldable pub createCode : ℕ → List ℕ → Machine → ℤ
 createCode caller bytes m =

@@ -1,45 +1,31 @@
 // When Create is refused: a locked configuration, a bad record, names, CPUs and memory that others
-// have, no room. Each test looks at the parts of the machine that its rule names.
+// have, no room. Each test looks at the parts of the machine that its rule names, and at the new
+// cell's record in its bytes.
 ghost use mathlib.Core.Path.{_≡_};
+ghost use mathlib.Core.Bool.{_&&_};
 ghost use Prim.Native.Nat.{_+_};
 ghost use lib.Dec.{ltb};
 ghost use lib.ListN.{take};
-ghost use Rattle.base.specs.Lists.{any};
+ghost use Rattle.base.specs.Lists.{any, same};
+ghost use Rattle.cell_record.specs.CellRecord.{cellOf, cellRegions};
 ghost use Rattle.machine_state.specs.declared.Machine.{Machine};
-ghost use Rattle.rules.specs.Create.{nameInUse, conflict as conflict-of, conflicts as conflicts-of, regionInUse, busy, noRoom};
+ghost use Rattle.rules.specs.Create.{conflict as conflict-of, conflicts as conflicts-of, noRoom};
 ghost use Rattle.rules.specs.Effects.{poolCost};
 ghost use Rattle.unobeyed.specs.Admission.{Follows};
-ghost use Rattle.create_rules.specs.Rows.{createRows, createCode};
+ghost use Rattle.create_rules.specs.Rows.{useCode, createRows, createCode};
 use base::E2BIG;
 use base::EBUSY;
 use base::EEXIST;
 use base::EINVAL;
 use base::ENOMEM;
 use base::EPERM;
-use cell_record::CellConfig;
 use machine_state::Answer;
 use machine_state::Cell;
 use machine_state::CommRegion;
 use machine_state::MAX_CELLS;
-use region_table::MAX_REGIONS;
 use regions::MemRegion;
 use system_record::SystemConfig;
 use unobeyed::Admission;
-
-// Whether root, whose name is `root`, or a live cell has the name.
-fn name_in_use(root: [u8; 32], live_ids: u16, cells: [Cell; MAX_CELLS], name: [u8; 32]) -> bool
-    ensures { λ r. ⌜ ((m : Machine) → m .system .name ≡ root → m .«live_ids» ≡ «live_ids» → m .cells ≡ cells → r ≡ nameInUse name m) ⌝ }
-{
-    let mut found = false;
-    let mut i = MAX_CELLS;
-    while 1 < i {
-        i -= 1;
-        let c = cells[i];
-        let other = c.name;
-        found = comms::is_live(live_ids, i as u64) & fields::same_name(other, name) | found;
-    }
-    fields::same_name(root, name) | found
-}
 
 // Whether two regions of different cells may not both be: they meet, and are not both shared.
 fn conflict(r: MemRegion, s: MemRegion) -> bool
@@ -51,74 +37,82 @@ fn conflict(r: MemRegion, s: MemRegion) -> bool
         & !(regions::is_shared(r) & regions::is_shared(s))
 }
 
-// Whether a region is in conflict with one of a table.
-fn conflicts_one(r: MemRegion, table: [MemRegion; MAX_REGIONS], count: usize) -> bool
-    ensures { λ q. ⌜ q ≡ any (conflict-of r) (take count table) ⌝ }
+// Whether a region is in conflict with one of the record's.
+fn conflicts_one(r: MemRegion, record: &[u8]) -> bool
+    ensures { λ q. ⌜ q ≡ any (conflict-of r) (cellRegions (cellOf (now («record» .entry)))) ⌝ }
 {
-    let n = region_table::used(count);
+    let n = cell_record::region_count(record);
+    let mut found = false;
+    let mut i = 0u16;
+    while i < n {
+        found = found | conflict(r, cell_record::region(record, i));
+        i += 1;
+    }
+    found
+}
+
+// Whether some region of a cell is in conflict with one of the record's.
+pub fn meets(c: Cell, record: &[u8]) -> bool
+    ensures { λ q. ⌜ q ≡ conflicts-of (take (c .«region_count») (c .regions)) (cellRegions (cellOf (now («record» .entry)))) ⌝ }
+{
+    let table = c.regions;
+    let n = region_table::used(c.region_count);
     let mut found = false;
     let mut i = 0;
     while i < n {
-        found = found | conflict(r, table[i]);
+        found = found | conflicts_one(table[i], record);
         i += 1;
     }
     found
 }
 
-// Whether some region of the first table is in conflict with one of the second.
-fn conflicts_all(
-    mine: [MemRegion; MAX_REGIONS],
-    n: usize,
-    table: [MemRegion; MAX_REGIONS],
-    count: usize,
-) -> bool
-    ensures { λ q. ⌜ q ≡ conflicts-of (take n mine) (take count table) ⌝ }
+// The same of a cell that is looked at only where it is live.
+fn live_meets(live: bool, c: Cell, record: &[u8]) -> bool
+    ensures { λ q. ⌜ q ≡ (live && conflicts-of (take (c .«region_count») (c .regions)) (cellRegions (cellOf (now («record» .entry))))) ⌝ }
 {
-    let m = region_table::used(n);
-    let mut found = false;
-    let mut i = 0;
-    while i < m {
-        found = found | conflicts_one(mine[i], table, count);
-        i += 1;
-    }
-    found
+    if live { meets(c, record) } else { false }
 }
 
-// Whether a region of a table is in conflict with one of a live cell.
-fn region_in_use(
-    live_ids: u16,
-    cells: [Cell; MAX_CELLS],
-    table: [MemRegion; MAX_REGIONS],
-    count: usize,
-) -> bool
-    ensures { λ q. ⌜ ((m : Machine) → m .«live_ids» ≡ «live_ids» → m .cells ≡ cells → q ≡ regionInUse (take count table) m) ⌝ }
+// Whether a cell has the record's name.
+pub fn has_name(c: Cell, record: &[u8]) -> bool
+    ensures { λ q. ⌜ q ≡ same (c .name) (cellOf (now («record» .entry)) .name) ⌝ }
 {
-    let mut found = false;
-    let mut i = MAX_CELLS;
-    while 1 < i {
-        i -= 1;
-        let c = cells[i];
-        let mine = c.regions;
-        let meets = conflicts_all(mine, c.region_count, table, count);
-        found = comms::is_live(live_ids, i as u64) & meets | found;
-    }
-    found
+    let name = cell_record::name(record);
+    let other = c.name;
+    fields::same_name(other, name)
 }
 
-// Whether a CPU or a region that the new cell wants is in use.
-fn is_busy(
+// The code where the record's name, or a CPU or a region that it wants, is in use, and 0 where
+// none is. `root` is root's name.
+fn in_use(
+    root: [u8; 32],
     live_ids: u16,
     root_cpus: u64,
     cells: [Cell; MAX_CELLS],
     caller: u64,
-    new: CellConfig,
-) -> bool
-    ensures { λ q. ⌜ ((m : Machine) → m .«live_ids» ≡ «live_ids» → m .«root_cpus» ≡ «root_cpus» → m .cells ≡ cells → q ≡ busy caller new m) ⌝ }
+    record: &[u8],
+) -> i32
+    ensures { λ r. ⌜ ((m : Machine) → m .system .name ≡ root → m .«live_ids» ≡ «live_ids» → m .«root_cpus» ≡ «root_cpus» → m .cells ≡ cells → r ≡ useCode caller (now («record» .entry)) m) ⌝ }
 {
-    let table = new.regions;
-    cpu_set::contains(new.cpus, caller)
-        | !cpu_set::is_subset(new.cpus, root_cpus)
-        | region_in_use(live_ids, cells, table, new.region_count)
+    let mut named = false;
+    let mut held = false;
+    let mut i = MAX_CELLS;
+    while 1 < i {
+        i -= 1;
+        let c = cells[i];
+        let live = comms::is_live(live_ids, i as u64);
+        named = live & has_name(c, record) | named;
+        held = live_meets(live, c, record) | held;
+    }
+    let name = cell_record::name(record);
+    if fields::same_name(root, name) | named {
+        return EEXIST;
+    }
+    let cpus = fields::u64_at(record, 40);
+    if cpu_set::contains(cpus, caller) | !cpu_set::is_subset(cpus, root_cpus) | held {
+        return EBUSY;
+    }
+    0
 }
 
 // Whether a pool of `pages` has no room for one more cell of `count` regions.
@@ -132,11 +126,12 @@ fn lacks_pages(pages: u32, pool_used: u32, count: usize) -> bool
     pages as usize - least < count
 }
 
-// Whether there is no ID or no room in the pool for the new cell.
-fn no_room(pages: u32, pool_used: u32, live_ids: u16, new: CellConfig) -> bool
-    ensures { λ q. ⌜ ((m : Machine) → m .system .pool .pages ≡ pages → m .«pool_used» ≡ «pool_used» → m .«live_ids» ≡ «live_ids» → q ≡ noRoom new m) ⌝ }
+// Whether there is no ID or no room in the pool for the record's cell.
+fn no_room(pages: u32, pool_used: u32, live_ids: u16, record: &[u8]) -> bool
+    ensures { λ q. ⌜ ((m : Machine) → m .system .pool .pages ≡ pages → m .«pool_used» ≡ «pool_used» → m .«live_ids» ≡ «live_ids» → q ≡ noRoom (cellOf (now («record» .entry))) m) ⌝ }
 {
-    (comms::free_id(live_ids) == MAX_CELLS) | lacks_pages(pages, pool_used, new.region_count)
+    let count = fields::u16_at(record, 48) as usize;
+    (comms::free_id(live_ids) == MAX_CELLS) | lacks_pages(pages, pool_used, count)
 }
 
 // The code with which Create is refused, 0 where it is not: its rules in their order.
@@ -158,25 +153,17 @@ pub fn refusal(
     if cell_record::MAX_LENGTH < record.len() {
         return E2BIG;
     }
-    let new = cell_record::cell_of(record);
-    if !(cell_record::cell_form(record) & cell_record::cell_valid(system, new))
-        | !cpu_set::is_subset(new.cpus, system.cpus)
-    {
+    let cpus = fields::u64_at(record, 40);
+    if !cell_record::is_valid(system, record) | !cpu_set::is_subset(cpus, system.cpus) {
         return EINVAL;
     }
     let root = system.name;
-    let name = new.name;
-    if name_in_use(root, live_ids, cells, name) {
-        return EEXIST;
-    }
-    if is_busy(live_ids, root_cpus, cells, caller, new) {
-        return EBUSY;
-    }
+    let code = in_use(root, live_ids, root_cpus, cells, caller, record);
     let pool = system.pool;
-    if no_room(pool.pages, pool_used, live_ids, new) {
+    if (code == 0) & no_room(pool.pages, pool_used, live_ids, record) {
         return ENOMEM;
     }
-    0
+    code
 }
 
 // Create's refusals, in their order.

@@ -1,7 +1,7 @@
--- Laws of tables of regions. A table is filled place by place: after i turns it is the table of the record's first i regions.
--- By the lists' elements. Assumes nothing.
-use mathlib.Core.Path.{_≡_, sym, ap, _∙_}
-use mathlib.Core.Bool.{Bool, true, false}
+-- Laws of a record's regions and of tables of them. A table is filled place by place: after i turns it is the table of the record's first i
+-- regions. A loop over the record's bytes gathers a test of each region. By the lists' elements. Assumes nothing.
+use mathlib.Core.Path.{_≡_, refl, sym, ap, ap₂, _∙_}
+use mathlib.Core.Bool.{Bool, true, false, _&&_, _||_}
 use mathlib.Core.List.{List, map}
 use Prim.Native.Nat.{ℕ, suc, _+_, _≤_, _<_, min}
 use native.Mathlib.Decide.{ℕ-discrete}
@@ -10,9 +10,9 @@ use borrow.Author.Tests.{lt-ltb, le-ltb}
 use lib.Dec.{ltb}
 use lib.ListN.{length, getD, set, take, replicate, getD-replicate, length-take}
 use lib.Seq.{getD-set-same, getD-set-other, getD-take}
-use Rattle.base.specs.Lists.{upTo}
+use Rattle.base.specs.Lists.{all, any, pairwise, from, upTo}
 use Rattle.base.proofs.Tests.{equal-leb}
-use Rattle.base.proofs.Lists.{length-upTo, getD-upTo, map-upTo}
+use Rattle.base.proofs.Lists.{all-turn, any-turn, pairwise-turn, length-upTo, getD-upTo, map-upTo}
 use Rattle.regions.specs.declared.MemRegion.{MemRegion}
 use Rattle.regions.specs.Regions.{noRegion}
 use Rattle.region_table.specs.Tables.{maxRegions, regionAt, regionsOf, tableOf}
@@ -56,14 +56,78 @@ module _ (base : ℕ) (bs : List ℕ) (xs : List MemRegion) (size : length xs �
       map-upTo (place base bs count) maxRegions noRegion xs size
       (λ k l. f k l ∙ place-same base bs i count k (λ p. omega arith) (λ p. omega arith))
 
--- the regions that a table's count names are the record's
-pub table-regions : (base n : ℕ) (bs : List ℕ) → n ≤ maxRegions → take n (tableOf base n bs) ≡ regionsOf base n bs
-unfolding tableOf regionsOf
-table-regions base n bs h =
-    map-upTo (regionAt base bs) n noRegion (take n (map (place base bs n) (upTo maxRegions)))
-    (length-take n (map (place base bs n) (upTo maxRegions)) ∙ ap (min n) (length-upTo (place base bs n) maxRegions) ∙ min-left)
-    (λ k l. getD-take n (map (place base bs n) (upTo maxRegions)) k noRegion l
-    ∙ getD-upTo (place base bs n) maxRegions k noRegion (omega arith) ∙ place-in base bs n k l)
-  where
-    min-left : min n maxRegions ≡ n
-    min-left = omega arith
+-- ---- the regions of a record, one more at a time
+
+module _ (base : ℕ) (bs : List ℕ) where
+  length-regions : (n : ℕ) → length (regionsOf base n bs) ≡ n
+  unfolding regionsOf
+  length-regions n = length-upTo (regionAt base bs) n
+
+  -- region i of a record that has more is the one at its own offset
+  region-is : (n i : ℕ) → i < n → getD (regionsOf base n bs) i noRegion ≡ regionAt base bs i
+  unfolding regionsOf
+  region-is n i h = getD-upTo (regionAt base bs) n i noRegion h
+
+  -- the first of them
+  first-regions : (n i : ℕ) → i ≤ n → take i (regionsOf base n bs) ≡ regionsOf base i bs
+  unfolding regionsOf
+  first-regions n i h =
+      map-upTo (regionAt base bs) i noRegion (take i (regionsOf base n bs))
+      (length-take i (regionsOf base n bs) ∙ ap (min i) (length-regions n) ∙ few)
+      (λ k l. getD-take i (regionsOf base n bs) k noRegion l ∙ region-is n k (omega arith))
+    where
+      few : min i n ≡ i
+      few = omega arith
+
+  -- the turns of a loop that gathers a test of each region
+  module _ (i : ℕ) where
+    inside : i < length (regionsOf base (i + 1) bs)
+    inside = let e = length-regions (i + 1) in omega arith
+
+    before : take i (regionsOf base (i + 1) bs) ≡ regionsOf base i bs
+    before = first-regions (i + 1) i (omega arith)
+
+    after : take (i + 1) (regionsOf base (i + 1) bs) ≡ regionsOf base (i + 1) bs
+    after = first-regions (i + 1) (i + 1) (omega arith)
+
+    here : regionAt base bs i ≡ getD (regionsOf base (i + 1) bs) i noRegion
+    here = sym (region-is (i + 1) i (omega arith))
+
+    pub all-regions : (p : MemRegion → Bool) (flag t : Bool) → flag ≡ all p (regionsOf base i bs) → t ≡ p (regionAt base bs i)
+        → (flag && t) ≡ all p (regionsOf base (i + 1) bs)
+    all-regions p flag t e q =
+        all-turn p (regionsOf base (i + 1) bs) i noRegion flag t (e ∙ ap (all p) (sym before)) (q ∙ ap p here) inside ∙ ap (all p) after
+
+    pub any-regions : (p : MemRegion → Bool) (flag t : Bool) → flag ≡ any p (regionsOf base i bs) → t ≡ p (regionAt base bs i)
+        → (flag || t) ≡ any p (regionsOf base (i + 1) bs)
+    any-regions p flag t e q =
+        any-turn p (regionsOf base (i + 1) bs) i noRegion flag t (e ∙ ap (any p) (sym before)) (q ∙ ap p here) inside ∙ ap (any p) after
+
+    pub pairwise-regions : (p : MemRegion → MemRegion → Bool) (flag t : Bool) → flag ≡ pairwise p (regionsOf base i bs)
+        → t ≡ all (λ x. p x (regionAt base bs i)) (regionsOf base i bs) → (flag && t) ≡ pairwise p (regionsOf base (i + 1) bs)
+    pairwise-regions p flag t e q =
+        pairwise-turn p (regionsOf base (i + 1) bs) i noRegion flag t (e ∙ ap (pairwise p) (sym before))
+        (q ∙ ap₂ (λ (r : MemRegion) (l : List MemRegion). all (λ x. p x r) l) here (sym before)) inside
+        ∙ ap (pairwise p) after
+
+  -- the loop's beginning
+  pub all-no-region : (p : MemRegion → Bool) → true ≡ all p (regionsOf base 0 bs)
+  unfolding all regionsOf from
+  all-no-region p = refl
+
+  pub any-no-region : (p : MemRegion → Bool) → false ≡ any p (regionsOf base 0 bs)
+  unfolding any regionsOf from
+  any-no-region p = refl
+
+  pub pairwise-no-region : (p : MemRegion → MemRegion → Bool) → true ≡ pairwise p (regionsOf base 0 bs)
+  unfolding pairwise regionsOf from
+  pairwise-no-region p = refl
+
+  -- the regions that a table's count names are the record's
+  pub table-regions : (n : ℕ) → take n (tableOf base n bs) ≡ regionsOf base (min n maxRegions) bs
+  unfolding tableOf regionsOf
+  table-regions n =
+      map-upTo (regionAt base bs) (min n maxRegions) noRegion (take n (tableOf base n bs))
+      (length-take n (tableOf base n bs) ∙ ap (min n) (length-upTo (place base bs n) maxRegions))
+      (λ k l. getD-take n (tableOf base n bs) k noRegion (omega arith)
+      ∙ getD-upTo (place base bs n) maxRegions k noRegion (omega arith) ∙ place-in base bs n k (omega arith))

@@ -1,12 +1,14 @@
-// Tables of regions: reading a record's regions, and the rules that speak of several.
+// The regions of a record: reading them, the rules that speak of several, and the tables that hold
+// them.
 //
-// A table has MAX_REGIONS places and a count of those in use; a count past that means all of them.
+// A rule on a record's regions looks at the record's bytes. A table has MAX_REGIONS places and a
+// count of those in use; a count past that means all of them.
 ghost use mathlib.Core.Path.{_≡_};
 ghost use Prim.Native.Nat.{min};
 ghost use lib.ListN.{take, drop};
 ghost use Rattle.base.specs.Lists.{all, any, pairwise};
 ghost use Rattle.regions.specs.Regions.{regionOf, noRegion, comm, apart, insidePhys};
-ghost use Rattle.region_table.specs.Tables.{maxRegions, tableOf};
+ghost use Rattle.region_table.specs.Tables.{maxRegions, regionsOf, tableOf};
 use regions::MemRegion;
 
 // How many places a table has.
@@ -88,29 +90,28 @@ pub fn inside_one(r: MemRegion, table: [MemRegion; MAX_REGIONS], count: usize) -
     found
 }
 
-// Whether the first `count` regions may each stand in one record with `r`.
-pub fn apart_from(table: [MemRegion; MAX_REGIONS], count: usize, r: MemRegion) -> bool
-    ensures { λ q. ⌜ q ≡ all (λ x. apart x r) (take count table) ⌝ }
+// Whether the first `n` regions of a record, from byte `base` on, may each stand in it with `r`.
+pub fn apart_from(s: &[u8], base: u16, n: u16, r: MemRegion) -> bool
+    ensures { λ q. ⌜ q ≡ all (λ x. apart x r) (regionsOf base n (now (s .entry))) ⌝ }
 {
-    let n = used(count);
     let mut ok = true;
-    let mut i = 0;
+    let mut i = 0u16;
     while i < n {
-        ok = ok & regions::apart(table[i], r);
+        ok = ok & regions::apart(region_at(s, base as usize + 32 * i as usize), r);
         i += 1;
     }
     ok
 }
 
-// Whether every two regions of the table may stand in one record.
-pub fn all_apart(table: [MemRegion; MAX_REGIONS], count: usize) -> bool
-    ensures { λ q. ⌜ q ≡ pairwise apart (take count table) ⌝ }
+// Whether every two of the first `n` regions of a record, from byte `base` on, may stand in it.
+pub fn all_apart(s: &[u8], base: u16, n: u16) -> bool
+    ensures { λ q. ⌜ q ≡ pairwise apart (regionsOf base n (now (s .entry))) ⌝ }
 {
-    let n = used(count);
     let mut ok = true;
-    let mut i = 0;
+    let mut i = 0u16;
     while i < n {
-        ok = ok & apart_from(table, i, table[i]);
+        let r = region_at(s, base as usize + 32 * i as usize);
+        ok = ok & apart_from(s, base, i, r);
         i += 1;
     }
     ok

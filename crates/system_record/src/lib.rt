@@ -1,9 +1,11 @@
 // The system record: its values, its rules, and boot's answer.
 ghost use mathlib.Core.Path.{_≡_};
 ghost use mathlib.Core.Bool.{_||_};
-ghost use lib.ListN.{take};
+ghost use Prim.Native.Nat.{min};
 ghost use Rattle.base.specs.Lists.{all};
-ghost use Rattle.system_record.specs.SystemRecord.{systemOf, systemForm, bootRegionOk, systemValid, outOfRange, overdrawn, tooMany, bootAnswer, readSystem};
+ghost use Rattle.fields.specs.Fields.{u16 as u16-of};
+ghost use Rattle.region_table.specs.Tables.{maxRegions};
+ghost use Rattle.system_record.specs.SystemRecord.{systemOf, systemForm, bootRegions, bootRegionOk, systemValid, outOfRange, overdrawn, tooMany, bootAnswer, readSystem};
 use base::EINVAL;
 use base::ENOMEM;
 use base::ERANGE;
@@ -98,31 +100,45 @@ pub fn boot_region_ok(hypervisor: Range, r: MemRegion) -> bool
         & regions::clear_of(hypervisor.start, hypervisor.size, r)
 }
 
-// Whether the first `count` regions of a table each keep a boot region's rules.
-fn boot_regions_ok(hypervisor: Range, table: [MemRegion; MAX_REGIONS], count: usize) -> bool
-    ensures { λ q. ⌜ q ≡ all (bootRegionOk (hypervisor .start) (hypervisor .size)) (take count table) ⌝ }
+// How many regions of the record there are: those that its count names, as many as a table holds.
+fn region_count(s: &[u8]) -> u16
+    ensures { λ r. ⌜ r ≡ min (u16-of 6 (now (s .entry))) maxRegions ⌝ }
 {
-    let n = region_table::used(count);
+    let n = fields::u16_at(s, 6);
+    if (n as usize) < MAX_REGIONS {
+        n
+    } else {
+        MAX_REGIONS as u16
+    }
+}
+
+// Whether the record's regions each keep a boot region's rules.
+fn boot_regions_ok(hypervisor: Range, s: &[u8]) -> bool
+    ensures { λ q. ⌜ q ≡ all (bootRegionOk (hypervisor .start) (hypervisor .size)) (bootRegions (systemOf (now (s .entry)))) ⌝ }
+{
+    let n = region_count(s);
     let mut ok = true;
-    let mut i = 0;
+    let mut i = 0u16;
     while i < n {
-        ok = ok & boot_region_ok(hypervisor, table[i]);
+        ok = ok & boot_region_ok(hypervisor, region_table::region_at(s, 96 + 32 * i as usize));
         i += 1;
     }
     ok
 }
 
-// Whether the values keep every rule that answers -22.
-pub fn system_valid(c: SystemConfig) -> bool
-    ensures { λ q. ⌜ q ≡ systemValid c ⌝ }
+// Whether the record's values keep every rule that answers -22.
+pub fn system_valid(s: &[u8]) -> bool
+    ensures { λ q. ⌜ q ≡ systemValid (systemOf (now (s .entry))) ⌝ }
 {
-    let name = c.name;
-    let hypervisor = c.hypervisor;
-    let regions = c.regions;
+    let name = fields::name_of(fields::part(s, 8, 32));
+    let hypervisor = Range {
+        start: fields::u64_at(s, 56),
+        size: fields::u64_at(s, 64),
+    };
     fields::is_name(&name)
         & regions::whole_pages(hypervisor.start, hypervisor.size)
-        & boot_regions_ok(hypervisor, regions, c.region_count)
-        & region_table::all_apart(regions, c.region_count)
+        & boot_regions_ok(hypervisor, s)
+        & region_table::all_apart(s, 96, region_count(s))
 }
 
 // Whether a pool number is past 2^31 - 1.
@@ -160,7 +176,7 @@ fn boot_answer(s: &[u8], c: SystemConfig) -> i32
     requires { ⌜ c ≡ systemOf (now s) ⌝ }
     ensures { λ q. ⌜ q ≡ bootAnswer (now (s .entry)) ⌝ }
 {
-    if !(system_form(s) & system_valid(c)) {
+    if !(system_form(s) & system_valid(s)) {
         return EINVAL;
     }
     if out_of_range(c) {

@@ -13,11 +13,11 @@ returns c = rule-holds _ _ _ (lt-ltb _ _ (c .if1 .taken))
 
 returns-2 : tie.Need-returns-2
 unfolding cellAnswer
-returns-2 c = rule-holds _ _ _ (cc) ∙ rule-passed _ _ _ (le-ltb _ _ (c .before .before .before .if1 .left))
+returns-2 c = rule-holds _ _ _ (cc) ∙ rule-passed _ _ _ (le-ltb _ _ (c .before .before .if1 .left))
 
 returns-3 : tie.Need-returns-3
 unfolding cellAnswer
-returns-3 c = no-rule _ ∙ rule-passed _ _ _ (cc) ∙ rule-passed _ _ _ (le-ltb _ _ (c .before .before .before .if1 .left))
+returns-3 c = no-rule _ ∙ rule-passed _ _ _ (cc) ∙ rule-passed _ _ _ (le-ltb _ _ (c .before .before .if1 .left))
 
 pub cell-answer-spec : {M : Type 1} → statement M
-cell-answer-spec = tie.close (tie.spec returns (λ c κs. search needs) (λ c κs. search needs) returns-2 returns-3)
+cell-answer-spec = tie.close (tie.spec returns (λ c κs. search needs) returns-2 returns-3)

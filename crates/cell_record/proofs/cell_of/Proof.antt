@@ -3,7 +3,6 @@ use mathlib.Core.Path.{ap, _∙_}
 use Prim.Native.Nat.{ℕ, _%_}
 use lib.Dec.{eqb}
 use denote.Ref.{now}
-use Rattle.fields.specs.Fields.{padded}
 use Rattle.region_table.specs.Tables.{tableOf}
 use Rattle.cell_record.specs.CellRecord.{cellOf}
 use borrow.Author.Needs.{needs}
@@ -13,9 +12,9 @@ use Rattle.cell_record.proofs.cell_of.Tie as tie
 returns : tie.Need-returns
 unfolding cellOf
 returns c =
-    let count = c .before .before .before .before .before .u16-at .ensures in
-    let name = c .before .before .before .name-of .ensures ∙ ap (padded 32) (c .before .before .before .before .part .ensures) in
-    let regions = c .before .before .table-of .ensures ∙ ap (λ (n : ℕ). tableOf 56 n (now (c .before .before .before .before .before .before .before .args .s))) count in
+    let count = c .before .before .before .before .u16-at .ensures in
+    let name = c .before .before .before .name .ensures in
+    let regions = c .before .before .table-of .ensures ∙ ap (λ (n : ℕ). tableOf 56 n (now (c .before .before .before .before .before .before .args .s))) count in
     let passive = ap (λ (n : ℕ). eqb (n % 2) 1) (c .before .u16-at2 .ensures) in
     λ i. record {
       name = name i;
@@ -26,4 +25,4 @@ returns c =
     }
 
 pub cell-of-spec : {M : Type 1} → statement M
-cell-of-spec = tie.close (tie.spec (λ c κs. search needs) (λ c. search needs) (λ c κs. search needs) (λ c κs. search needs) (λ c κs. search needs) (λ c κs. search needs) (λ c κs. search needs) returns)
+cell-of-spec = tie.close (tie.spec (λ c κs. search needs) (λ c. search needs) (λ c κs. search needs) (λ c κs. search needs) (λ c κs. search needs) (λ c κs. search needs) returns)

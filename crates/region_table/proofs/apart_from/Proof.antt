@@ -1,36 +1,42 @@
 -- `region_table::apart_from` meets its contract. The loop's invariant: the flag says whether every region passed is apart from r.
--- The array has as many elements as places, so the loop passes those that the count names. Assumes nothing.
+-- Assumes nothing.
 use mathlib.Core.Path.{_≡_, ap, _∙_}
-use Prim.Native.Nat.{_≤_, _-_}
+use Prim.Native.Nat.{ℕ, _≤_, _-_}
 use native.Mathlib.Omega.{arith}
-use lib.ListN.{take}
+use denote.Ref.{now}
 use Rattle.base.specs.Lists.{all}
-use Rattle.base.proofs.Lists.{all-none, all-turn, take-used}
+use Rattle.regions.specs.declared.MemRegion.{MemRegion}
 use Rattle.regions.specs.Regions.{apart}
+use Rattle.region_table.specs.Tables.{regionAt, regionsOf}
+use Rattle.region_table.proofs.Laws.{all-no-region, all-regions}
 use borrow.Author.Needs.{needs}
 use Rattle.region_table.proofs.apart_from.Statement.{statement}
 use Rattle.region_table.proofs.apart_from.Tie as tie
 
 abbrev Inv-loop : tie.InvT-loop
-Inv-loop count r table n ok₀ i₀ ok i = (i ≤ n) × (ok ≡ all (λ x. apart x r) (take i table))
+Inv-loop s base n r ok₀ i₀ ok i = (i ≤ n) × (ok ≡ all (λ x. apart x r) (regionsOf base i s))
 
 abbrev μ-loop : tie.MeasureT-loop
-μ-loop count r table n ok₀ i₀ ok i = n - i
+μ-loop s base n r ok₀ i₀ ok i = n - i
 
 loop-holds : tie.Need-loop-holds Inv-loop μ-loop
-loop-holds c = (search needs, all-none _ (c .before .args .t1))
+loop-holds c = (search needs, all-no-region _ _ _)
 
 loop-again : tie.Need-loop-again Inv-loop μ-loop
+unfolding regionAt
 loop-again c =
-    let a = c .before .before .before .before .before in
-    let size = a .good .0 .1 .0 .1 in
-    (search needs, all-turn _ (a .args .t1) _ _ _ _ (c .before .before .before .loop .inv .1) (c .apart .ensures) (omega arith))
+    let a = c .before .before .before .before .before .args in
+    let l = c .before .before .before .loop in (
+      search needs,
+      all-regions _ _ (l .i) (λ x. apart x (a .r)) _ _ (l .inv .1) (c .apart .ensures ∙ ap (λ (x : MemRegion). apart x (a .r)) (c .before .region-at .ensures)),
+    )
 
 returns : tie.Need-returns Inv-loop μ-loop
 returns c =
-    let a = c .before .before .before in
+    let a = c .before .before .before .args in
     let l = c .before .loop in
-    l .inv .1 ∙ ap (all _) (take-used (a .args .t1) _ _ _ (l .i) (a .good .0 .1 .0 .1) (c .before .before .used .ensures) (l .inv .0) (c .loop-test .left))
+    let end : l .i ≡ a .n = omega arith in
+    l .inv .1 ∙ ap (λ (k : ℕ). all (λ x. apart x (a .r)) (regionsOf (a .base) k (now (a .s)))) end
 
 pub apart-from-spec : {M : Type 1} → statement M
-apart-from-spec = tie.close (tie.spec Inv-loop μ-loop (λ c κs. search needs) loop-holds (λ c. search needs) (λ c. search needs) (λ c κs. search needs) (λ c. search needs) (λ c. search needs) loop-again returns)
+apart-from-spec = tie.close (tie.spec Inv-loop μ-loop loop-holds (λ c. search needs) (λ c. search needs) (λ c. search needs) (λ c κs. search needs) (λ c κs. search needs) (λ c. search needs) (λ c. search needs) loop-again returns)

@@ -1,0 +1,47 @@
+-- `create_rules::meets` meets its contract. The loop's invariant: the flag says whether a region passed is in conflict with one of the
+-- record's. The array has as many elements as places, so the loop passes those that the count names. Assumes nothing.
+use mathlib.Core.Path.{_≡_, ap, _∙_}
+use mathlib.Core.Bool.{Bool}
+use mathlib.Core.List.{List}
+use Prim.Native.Nat.{ℕ, _≤_, _-_}
+use native.Mathlib.Omega.{arith}
+use lib.ListN.{length, take, length-map}
+use Rattle.base.specs.Lists.{any}
+use Rattle.base.proofs.Lists.{any-none, any-turn, take-used}
+use Rattle.regions.specs.declared.MemRegion.{MemRegion}
+use Rattle.region_table.specs.Tables.{maxRegions}
+use Rattle.cell_record.specs.CellRecord.{cellOf, cellRegions}
+use Rattle.rules.specs.Create.{conflict, conflicts}
+use borrow.Author.Needs.{needs}
+use Rattle.create_rules.proofs.meets.Statement.{statement}
+use Rattle.create_rules.proofs.meets.Tie as tie
+
+abbrev with-record : List ℕ → MemRegion → Bool
+with-record bytes r = any (conflict r) (cellRegions (cellOf bytes))
+
+abbrev Inv-loop : tie.InvT-loop
+Inv-loop bytes table n found₀ i₀ found i = (i ≤ n) × (found ≡ any (with-record bytes) (take i table))
+
+abbrev μ-loop : tie.MeasureT-loop
+μ-loop bytes table n found₀ i₀ found i = n - i
+
+loop-holds : tie.Need-loop-holds Inv-loop μ-loop
+loop-holds c = (search needs, any-none _ (c .before .before .before .args .c .regions))
+
+loop-again : tie.Need-loop-again Inv-loop μ-loop
+loop-again c =
+    let entry = c .before .before .before .before .before .before .before in
+    let l = c .before .before .before .loop in
+    let size : length (entry .args .c .regions) ≡ maxRegions = simp length-map at (entry .good .0 .1 .1 .1 .1 .1 .1 .0 .1 .0 .1) in
+    (search needs, any-turn _ (entry .args .c .regions) _ _ _ _ (l .inv .1) (c .conflicts-one .ensures) (omega arith))
+
+returns : tie.Need-returns Inv-loop μ-loop
+unfolding conflicts
+returns c =
+    let entry = c .before .before .before .before .before in
+    let l = c .before .loop in
+    let size : length (entry .args .c .regions) ≡ maxRegions = simp length-map at (entry .good .0 .1 .1 .1 .1 .1 .1 .0 .1 .0 .1) in
+    l .inv .1 ∙ ap (any _) (take-used _ _ _ _ (l .i) size (c .before .before .used .ensures) (l .inv .0) (c .loop-test .left))
+
+pub meets-spec : {M : Type 1} → statement M
+meets-spec = tie.close (tie.spec Inv-loop μ-loop (λ c κs. search needs) loop-holds (λ c. search needs) (λ c. search needs) (λ c κs. search needs) (λ c. search needs) (λ c. search needs) loop-again returns)
