@@ -3,14 +3,16 @@
 use mathlib.Core.Bool.{Bool, true, false, _&&_}
 use mathlib.Core.List.{List}
 use mathlib.Core.Path.{_≡_, refl, sym, ap, _∙_}
+use mathlib.Core.Logic.{⊎-elim}
 use Prim.Native.Nat.{ℕ, _<_, _≤_}
 use native.Mathlib.Omega.{arith}
-use borrow.Author.Tests.{lt-ltb, le-ltb}
+use borrow.Author.Tests.{ltb-true, lt-ltb, le-ltb}
 use lib.Dec.{ltb}
 use lib.IntN.{ℤ, pos}
-use lib.ListN.{length}
+use lib.ListN.{length, List·getD-eq-default}
 use lib.Seq.{set-getD}
 use Rattle.base.specs.Rules.{EPERM}
+use Rattle.base.proofs.Tests.{is-true, holds, and-left, and-right, le-or-lt}
 use Rattle.cell_record.specs.declared.CellConfig.{CellConfig}
 use Rattle.machine_state.specs.declared.Answer.{Answer}
 use Rattle.machine_state.specs.declared.Answer.the-variants.{Code, Wait}
@@ -28,7 +30,8 @@ use Rattle.rules.specs.Effects.{effect}
 use Rattle.rules.specs.Asking.{nextToMessage, asks, tells, everyCell, isDestroy, shutdownRequest, waitFor, finished, endCode, tell, carryOut, noneToAsk, ask, isHeard, consents, hear, pollCell}
 use Rattle.comms.specs.declared.WordsChange.the-variants.{Keep, Message}
 use Rattle.comms.specs.declared.Whom.the-variants.{EveryoneBut}
-use Rattle.comms.specs.Comms.{wordsOf, wordsAt, among}
+use Rattle.comms.specs.Comms.{wordsOf, wordsAt, among, cellIndex}
+use Rattle.comms.proofs.Laws.{cell-inside}
 use Rattle.asking.specs.declared.Effect.{Effect}
 use Rattle.asking.specs.declared.Effect.the-variants.{NoEffect, Comes}
 use Rattle.asking.specs.declared.Move.{Move}
@@ -146,11 +149,30 @@ module _ (kind : CallKind) (target : ℕ) (new : CellConfig) (m : Machine) where
 
 -- ---- hearing
 
--- what a test says of the words in the table, it says of the machine's
-pub seen : (test : CommRegion → Bool) (m : Machine) (table : List CommRegion) (cell : ℕ) (words : CommRegion) (flag b : Bool)
-    → m .comms ≡ table → words ≡ commIn table cell → flag ≡ test words → flag ≡ b → test (commAt m cell) ≡ b
-seen test m table cell words flag b e w f t =
-    ap (λ (l : List CommRegion). test (commIn l cell)) e ∙ sym (ap test w) ∙ sym f ∙ t
+-- what a test says of the words that the code has, it says of the machine's
+pub seen : (test : CommRegion → Bool) (m : Machine) (cell : ℕ) (words : CommRegion) (flag b : Bool)
+    → commAt m cell ≡ words → flag ≡ test words → flag ≡ b → test (commAt m cell) ≡ b
+seen test m cell words flag b w f t = ap test w ∙ sym f ∙ t
+
+-- the words at the place of a cell of the table are its own; past the table's end nobody is heard
+module _ (m : Machine) (cell : ℕ) (words : CommRegion) (flag : Bool) (w : commAt m (cellIndex cell) ≡ words) (f : flag ≡ isHeard words) where
+  pub own-words : (ltb cell maxCells && flag) ≡ true → commAt m cell ≡ words
+  own-words t = ap (commAt m) (sym (cell-inside cell (ltb-true cell maxCells (is-true _ (and-left (ltb cell maxCells) flag (holds t)))))) ∙ w
+
+  pub heard-place : (ltb cell maxCells && flag) ≡ true → isHeard (commAt m cell) ≡ true
+  heard-place t = seen isHeard m cell words flag true (own-words t) f (is-true _ (and-right (ltb cell maxCells) flag (holds t)))
+
+  pub unheard-place : (ltb cell maxCells && flag) ≡ false → length (m .comms) ≡ maxCells → isHeard (commAt m cell) ≡ false
+  unfolding isHeard
+  unheard-place t l = ⊎-elim past within (le-or-lt maxCells cell)
+    where
+      past : maxCells ≤ cell → isHeard (commAt m cell) ≡ false
+      past h =
+          let short : length (m .comms) ≤ cell = omega (arith, l, h) in
+          rw (List·getD-eq-default (m .comms) pastComm short)
+
+      within : cell < maxCells → isHeard (commAt m cell) ≡ false
+      within h = seen isHeard m cell words flag false (ap (commAt m) (sym (cell-inside cell h)) ∙ w) f (rw (lt-ltb cell maxCells h) at t)
 
 module _ (kind : CallKind) (stage : Stage) (new : CellConfig) (m : Machine) where
   pub heard-telling : stage .telling ≡ true → tell kind (stage .target) (stage .cell) m ≡ hear kind stage new m

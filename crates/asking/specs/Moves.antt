@@ -8,14 +8,16 @@ use lib.Dec.{ltb}
 use Rattle.cell_record.specs.declared.CellConfig.{CellConfig}
 use Rattle.machine_state.specs.declared.CommRegion.{CommRegion}
 use Rattle.machine_state.specs.declared.CallKind.{CallKind}
+use Rattle.machine_state.specs.declared.Stage.{Stage}
 use Rattle.machine_state.specs.declared.Waiting.{Waiting}
 use Rattle.machine_state.specs.declared.Machine.{Machine}
 use Rattle.machine_state.specs.declared.Stepped.{Stepped}
 use Rattle.machine_state.specs.Machine.{maxCells}
-use Rattle.rules.specs.State.{noId, withWaiting, answered}
+use Rattle.rules.specs.State.{commAt, noId, withWaiting, answered}
 use Rattle.rules.specs.Effects.{effect}
 use Rattle.rules.specs.Asking.{reconfigCompleted, waitFor, finished, endCode}
-use Rattle.comms.specs.Comms.{wordsAt}
+use Rattle.comms.specs.Comms.{wordsAt, cellIndex}
+use Rattle.unobeyed.specs.Admission.{waitedCell}
 use Rattle.asking.specs.declared.Effect.{Effect}
 use Rattle.asking.specs.declared.Effect.the-variants.{NoEffect, Comes}
 use Rattle.asking.specs.declared.Move.{Move}
@@ -44,6 +46,17 @@ pub record WithWords (live : ℕ) (table : List CommRegion) (m : Machine) : Type
 pub record Waits (live : ℕ) (table : List CommRegion) (waiting : Waiting) (m : Machine) : Type 0 where
   pub parts : WithWords live table m
   pub waits : m .waiting ≡ waiting
+
+-- those in which the words of the stage's cell are these
+pub record Hears (live : ℕ) (table : List CommRegion) (w : CommRegion) (stage : Stage) (m : Machine) : Type 0 where
+  pub parts : WithWords live table m
+  pub words : commAt m (stage .cell) ≡ w
+
+-- those with this waiting call, in which these words stand at the place of the cell waited for
+pub record Polls (live : ℕ) (table : List CommRegion) (w : CommRegion) (waiting : Waiting) (m : Machine) : Type 0 where
+  pub parts : WithWords live table m
+  pub waits : m .waiting ≡ waiting
+  pub words : commAt m (cellIndex (waitedCell waiting)) ≡ w
 
 -- telling the cell `next`, or with none left the call's end
 unfoldable pub tellNext : CallKind → ℕ → ℕ → Machine → Stepped

@@ -5,7 +5,7 @@ ghost use Prim.Native.Nat.{ℕ, _<_};
 ghost use Rattle.rules.specs.State.{answered};
 ghost use Rattle.rules.specs.Asking.{asks, tells as tells-of, isDestroy, endCode, waitFor, finished, carryOut, noneToAsk, ask as ask-of, hear as hear-of, pollCell, poll as poll-of};
 ghost use Rattle.comms.specs.Comms.{among};
-ghost use Rattle.asking.specs.Moves.{effectOf, AnyMachine, WithWords, Waits, tellNext, Moves};
+ghost use Rattle.asking.specs.Moves.{effectOf, AnyMachine, WithWords, Hears, Polls, tellNext, Moves};
 use base::EPERM;
 use comms::Whom;
 use comms::WordsChange;
@@ -191,9 +191,15 @@ pub fn ask(
     }
 }
 
-// What a heard cell's reply leads to.
-fn hear(live_ids: u16, comms: [CommRegion; MAX_CELLS], kind: CallKind, stage: Stage) -> Move
-    ensures { λ r. ⌜ Moves (WithWords «live_ids» comms) (hear-of kind stage) r ⌝ }
+// What the reply of a heard cell, whose words are `w`, leads to.
+fn hear(
+    live_ids: u16,
+    comms: [CommRegion; MAX_CELLS],
+    w: CommRegion,
+    kind: CallKind,
+    stage: Stage,
+) -> Move
+    ensures { λ r. ⌜ Moves (Hears «live_ids» comms w stage) (hear-of kind stage) r ⌝ }
 {
     let cell = stage.cell;
     let target = stage.target;
@@ -201,31 +207,37 @@ fn hear(live_ids: u16, comms: [CommRegion; MAX_CELLS], kind: CallKind, stage: St
         let next = comms::next_cell(live_ids, comms, Whom::Everyone, cell);
         return tell_next(kind, target, next, Effect::NoEffect);
     }
-    if comms::consents(comms::words_at(comms, cell)) {
+    if comms::consents(w) {
         ask(live_ids, comms, kind, target, cell)
     } else {
         finish(EPERM, Effect::NoEffect)
     }
 }
 
-// A poll of a waiting call: looks at the cell waited for.
-fn poll_cell(live_ids: u16, comms: [CommRegion; MAX_CELLS], kind: CallKind, stage: Stage) -> Move
-    ensures { λ r. ⌜ Moves (Waits «live_ids» comms (Waiting.Pending kind stage)) (pollCell kind stage) r ⌝ }
+// A poll of a waiting call: looks at the cell waited for, at whose place the words `w` stand.
+fn poll_cell(
+    live_ids: u16,
+    comms: [CommRegion; MAX_CELLS],
+    w: CommRegion,
+    kind: CallKind,
+    stage: Stage,
+) -> Move
+    ensures { λ r. ⌜ Moves (Polls «live_ids» comms w (Waiting.Pending kind stage)) (pollCell kind stage) r ⌝ }
 {
     let cell = stage.cell;
-    if comms::is_heard(comms::words_at(comms, cell)) {
-        hear(live_ids, comms, kind, stage)
+    if (cell < MAX_CELLS) & comms::is_heard(w) {
+        hear(live_ids, comms, w, kind, stage)
     } else {
         stay(Answer::Wait(cell), Waiting::Pending(kind, stage))
     }
 }
 
-// A poll.
-pub fn poll(live_ids: u16, comms: [CommRegion; MAX_CELLS], waiting: Waiting) -> Move
-    ensures { λ r. ⌜ Moves (Waits «live_ids» comms waiting) (poll-of waiting) r ⌝ }
+// A poll; at the place of the cell waited for, if one is, the words `w` stand.
+pub fn poll(live_ids: u16, comms: [CommRegion; MAX_CELLS], w: CommRegion, waiting: Waiting) -> Move
+    ensures { λ r. ⌜ Moves (Polls «live_ids» comms w waiting) (poll-of waiting) r ⌝ }
 {
     match waiting {
         Waiting::NoCall => stay(Answer::Idle, waiting),
-        Waiting::Pending(kind, stage) => poll_cell(live_ids, comms, kind, stage),
+        Waiting::Pending(kind, stage) => poll_cell(live_ids, comms, w, kind, stage),
     }
 }

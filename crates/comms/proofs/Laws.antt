@@ -1,13 +1,15 @@
 -- Loops that go through the cells' IDs from the highest down: what is found at or above i, one ID a turn. Assumes nothing.
-use mathlib.Core.Path.{_≡_, refl, ap, _∙_}
+use mathlib.Core.Path.{_≡_, refl, sym, ap, subst, _∙_}
 use mathlib.Core.Bool.{Bool, true, false, _||_}
 use Prim.Native.Nat.{ℕ, zero, suc, _-_, _≤_, _<_}
 use native.Mathlib.Omega.{arith}
+use borrow.Author.Tests.{lt-ltb, le-ltb}
 use Rattle.base.specs.Lists.{any, from}
 use Rattle.machine_state.specs.declared.CommRegion.{CommRegion}
 use Rattle.machine_state.specs.Machine.{maxCells}
 use Rattle.rules.specs.State.{first, cellIds}
 use Rattle.rules.specs.Effects.{storeWord, withState}
+use Rattle.comms.specs.Comms.{Index, cellIndex}
 use Rattle.comms.specs.Choice.{choice}
 
 -- what a search over the IDs from i up finds
@@ -70,3 +72,16 @@ unfolding storeWord
 store-state zero value c n m = absurd (n refl)
 store-state (suc zero) value c n m = absurd (m refl)
 store-state (suc (suc k)) value c n m = refl
+
+-- a number below the tables' size is its own place
+pub cell-inside : (id : ℕ) → id < maxCells → cellIndex id ≡ id
+unfolding cellIndex
+cell-inside id h = rw (lt-ltb id maxCells h, cellIndex)
+
+pub cell-outside : (id : ℕ) → maxCells ≤ id → cellIndex id ≡ 0
+unfolding cellIndex
+cell-outside id h = rw (le-ltb id maxCells h, cellIndex)
+
+-- a place that is one thing's is that of an equal one
+pub index-at : {A : Type 0} (place : A → ℕ) (size r : ℕ) (x y : A) → x ≡ y → Index (place y) size r → Index (place x) size r
+index-at {A} place size r x y e i = subst (λ (z : A). Index (place z) size r) (sym e) i

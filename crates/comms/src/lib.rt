@@ -10,7 +10,7 @@ ghost use Rattle.rules.specs.State.{hasId, isFinal, commAt, active};
 ghost use Rattle.rules.specs.Create.{freeId, otherCellLocked};
 ghost use Rattle.rules.specs.Effects.{storeWord, addId, dropId};
 ghost use Rattle.rules.specs.Asking.{message as message-of, nextToMessage, isHeard, consents as consents-of};
-ghost use Rattle.comms.specs.Comms.{wordsOf, among as among-of};
+ghost use Rattle.comms.specs.Comms.{Index, cellIndex, wordsOf, among as among-of};
 ghost use Rattle.comms.specs.Choice.{choice};
 use machine_state::CommRegion;
 use machine_state::FAILED;
@@ -32,6 +32,13 @@ pub enum Whom {
     Nobody,
     Only(usize),
     EveryoneBut(usize),
+}
+
+// The place of cell `id` in the tables; 0 where it has none there.
+pub fn cell_index(id: usize) -> usize
+    ensures { λ r. ⌜ Index (cellIndex id) 16 r ⌝ }
+{
+    if id < MAX_CELLS { id } else { 0 }
 }
 
 // Whether cell `id` is live.

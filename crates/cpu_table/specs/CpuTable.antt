@@ -1,7 +1,10 @@
 -- What is done to a CPU, as a value that one function hands to another; each case is a rule's.
+use mathlib.Core.Bool.{true, false}
 use Prim.Native.Nat.{ℕ}
+use lib.Dec.{ltb}
 use Rattle.machine_state.specs.declared.Cpu.{Cpu}
 use Rattle.machine_state.specs.declared.Machine.{Machine}
+use Rattle.machine_state.specs.Machine.{maxCpus}
 use Rattle.rules.specs.State.{cpuAt, withCpu}
 use Rattle.rules.specs.Effects.{countExit, failCpu, startCpu, stopCpu, givenTo}
 use Rattle.cpu_table.specs.declared.CpuChange.{CpuChange}
@@ -18,3 +21,7 @@ changeOf (Give cell stopped) p = givenTo cell stopped p
 -- the machine with one CPU changed
 unfoldable pub touched : ℕ → CpuChange → Machine → Machine
 touched cpu how m = withCpu cpu (changeOf how (cpuAt m cpu)) m
+
+-- a CPU's place in the table; 0 where it has none for its number
+unfoldable pub cpuIndex : ℕ → ℕ
+cpuIndex cpu = elim (ltb cpu maxCpus) [ true ↦ cpu | false ↦ 0 ]

@@ -3,7 +3,8 @@ ghost use mathlib.Core.Path.{_≡_};
 ghost use lib.ListN.{set as set-at};
 ghost use Rattle.machine_state.specs.Machine.{cpuIn};
 ghost use Rattle.rules.specs.Effects.{bump as bump-of, countExit, failCpu, startCpu, stopCpu, allFailed, changeIn, changeCpus};
-ghost use Rattle.cpu_table.specs.CpuTable.{changeOf};
+ghost use Rattle.comms.specs.Comms.{Index};
+ghost use Rattle.cpu_table.specs.CpuTable.{changeOf, cpuIndex};
 use machine_state::Cpu;
 use machine_state::MAX_CPUS;
 
@@ -20,6 +21,17 @@ pub enum CpuChange {
 
 // The counter of calls; 0 is the total, and exits of kinds 0 to 3 have 1 to 4.
 pub const CALL_COUNTER: usize = 5;
+
+// The place of CPU `cpu` in the table; 0 where it has none there.
+pub fn cpu_index(cpu: u64) -> usize
+    ensures { λ r. ⌜ Index (cpuIndex cpu) 64 r ⌝ }
+{
+    if cpu < MAX_CPUS as u64 {
+        cpu as usize
+    } else {
+        0
+    }
+}
 
 // The counters with one added to the one at `i`, modulo 2^32.
 fn bump(counters: [u32; 6], i: usize) -> [u32; 6]

@@ -4,17 +4,18 @@ use mathlib.Core.Bool.{Bool, true, false, not, _&&_, _||_}
 use mathlib.Core.List.{List}
 use mathlib.Core.Path.{_≡_, refl, sym, ap, _∙_}
 use Prim.Native.Nat.{ℕ, _<_, _≤_}
+use mir.Syntax.{w32}
+use mir.Val.{ofZ}
 use borrow.Author.Tests.{eq-eqb, ne-eqb, lt-ltb, le-ltb}
 use lib.Dec.{leb, eqb}
+use lib.IntN.{ℤ}
 use lib.ListN.{length}
 use lib.Seq.{getD-set-same}
 use Rattle.base.specs.Rules.{firstRule, EPERM, ENOENT, EINVAL, ENOSYS}
 use Rattle.base.proofs.Rules.{rule-holds, rule-passed, no-rule}
 use Rattle.cell_record.specs.declared.CellConfig.{CellConfig}
 use Rattle.cell_record.specs.CellRecord.{cellOf}
-use Rattle.system_record.specs.declared.SystemConfig.{SystemConfig}
-use Rattle.machine_state.specs.declared.Answer.{Answer}
-use Rattle.machine_state.specs.declared.Cell.{Cell}
+use Rattle.system_record.specs.declared.Pool.{Pool}
 use Rattle.machine_state.specs.declared.CommRegion.{CommRegion}
 use Rattle.machine_state.specs.declared.Waiting.{Waiting}
 use Rattle.machine_state.specs.declared.Cpu.{Cpu}
@@ -23,7 +24,7 @@ use Rattle.machine_state.specs.declared.CallKind.the-variants.{Disable, Create,
 use Rattle.machine_state.specs.declared.Machine.{Machine}
 use Rattle.machine_state.specs.declared.Stepped.{Stepped}
 use Rattle.machine_state.specs.Machine.{pastCpu}
-use Rattle.rules.specs.State.{rootId, cpuAt, live, withCpus, answered}
+use Rattle.rules.specs.State.{rootId, cpuAt, live, withCpus}
 use Rattle.rules.specs.Queries.{getInfo, getState, cpuGetInfo}
 use Rattle.rules.specs.Create.{otherCellLocked, freeId}
 use Rattle.rules.specs.Effects.{counted, countExit, callCounter}
@@ -31,11 +32,8 @@ use Rattle.rules.specs.Asking.{ask, isDestroy}
 use Rattle.rules.specs.Calls.{ends, cpuGetInfoCode, cellDestroy, cellGetState, disableCall, createCall, targetCall, callByCode, call}
 use Rattle.asking.specs.declared.Move.{Move}
 use Rattle.asking.specs.Moves.{Moves, WithWords, Waits}
-use Rattle.unobeyed.specs.declared.Admission.{Admission}
-use Rattle.unobeyed.specs.declared.Admission.the-variants.{Admitted, Refused}
-use Rattle.unobeyed.specs.Admission.{admitted, Follows}
-use Rattle.create_rules.specs.Rows.{createRows}
-use Rattle.create_rules.proofs.Laws.{create-follows}
+use Rattle.create_rules.specs.Rows.{createCode}
+use Rattle.create_rules.proofs.Laws.{code-admits, code-refuses}
 use Rattle.decide.specs.Decide.{Calls, Parts}
 
 -- a move by a rule, as a call's
@@ -65,19 +63,14 @@ module _ (kind : CallKind) (id : ℕ) (new : CellConfig) (m : Machine) where
       unfolding targetCall
       target-asks e = no-rule _ ∙ rule-passed _ _ _ e ∙ rule-passed _ _ _ there ∙ rule-passed _ _ _ (ne-eqb id rootId not-root)
 
--- ---- Create, by its admission
+-- ---- Create, by what the scan found
 
-module _ (caller : ℕ) (bytes : List ℕ) (m : Machine) (r : Admission) (f : Follows r (createRows caller bytes m) m) where
-  pub create-refused : (a : Answer) → r ≡ Refused a → answered a m ≡ createCall caller bytes m
-  unfolding admitted
-  create-refused a q =
-      sym (ap (λ (x : Admission). admitted x (ask Create (freeId m) 0 (cellOf bytes) m) m) q) ∙ create-follows r caller bytes m f
+module _ (caller : ℕ) (bytes : List ℕ) (m : Machine) (scan : ℤ) (e : scan ≡ createCode caller bytes m) where
+  pub create-refused : (ofZ w32 scan ≡ 0 → ⊥) → ends scan m ≡ createCall caller bytes m
+  create-refused n = sym (code-refuses caller bytes m scan e n)
 
-  pub create-asks : (id : ℕ) → id ≡ freeId m → r ≡ Admitted → ask Create id 0 (cellOf bytes) m ≡ createCall caller bytes m
-  unfolding admitted
-  create-asks id e q =
-      ap (λ (k : ℕ). ask Create k 0 (cellOf bytes) m) e
-      ∙ sym (ap (λ (x : Admission). admitted x (ask Create (freeId m) 0 (cellOf bytes) m) m) q) ∙ create-follows r caller bytes m f
+  pub create-asks : (id : ℕ) → id ≡ freeId m → ofZ w32 scan ≡ 0 → ask Create id 0 (cellOf bytes) m ≡ createCall caller bytes m
+  create-asks id f z = ap (λ (k : ℕ). ask Create k 0 (cellOf bytes) m) f ∙ sym (code-admits caller bytes m scan e z)
 
 -- ---- a call by its code
 
@@ -119,26 +112,24 @@ module _ (cpu a1 a2 : ℕ) (bytes : List ℕ) (m : Machine) where
 
 -- ---- the machine where a call is counted
 
-pub counted-parts : {s : SystemConfig} {pages ids root : ℕ} {room : List Cell} {table : List CommRegion} {w : Waiting} (cpu : ℕ) (m : Machine)
-    → Parts s pages ids root room table w m → Parts s pages ids root room table w (counted callCounter cpu m)
-unfolding counted withCpus
-counted-parts cpu m h = record {
-  system = h .system;
-  pool = h .pool;
-  ids = h .ids;
-  rootCpus = h .rootCpus;
-  cells = h .cells;
-  words = h .words;
-  waits = h .waits;
-}
+module _ {boot : ℕ} {pool remap : Pool} {pages ids : ℕ} {table : List CommRegion} {w : Waiting} where
+  pub counted-parts : (cpu : ℕ) (m : Machine) → Parts boot pool remap pages ids table w m → Parts boot pool remap pages ids table w (counted callCounter cpu m)
+  unfolding counted withCpus
+  counted-parts cpu m h = record {
+    boot = h .boot;
+    pool = h .pool;
+    remap = h .remap;
+    used = h .used;
+    ids = h .ids;
+    words = h .words;
+    waits = h .waits;
+  }
 
-pub with-words : {s : SystemConfig} {pages ids root : ℕ} {room : List Cell} {table : List CommRegion} {w : Waiting} (m : Machine)
-    → Parts s pages ids root room table w m → WithWords ids table m
-with-words m h = record { ids = h .ids; words = h .words }
+  pub with-words : (m : Machine) → Parts boot pool remap pages ids table w m → WithWords ids table m
+  with-words m h = record { ids = h .ids; words = h .words }
 
-pub with-waiting : {s : SystemConfig} {pages ids root : ℕ} {room : List Cell} {table : List CommRegion} {w : Waiting} (m : Machine)
-    → Parts s pages ids root room table w m → Waits ids table w m
-with-waiting m h = record { parts = with-words m h; waits = h .waits }
+  pub with-waiting : (m : Machine) → Parts boot pool remap pages ids table w m → Waits ids table w m
+  with-waiting m h = record { parts = with-words m h; waits = h .waits }
 
 module _ (cpu : ℕ) (m : Machine) where
   abbrev owner : Cpu → ℕ

@@ -2,34 +2,41 @@
 -- the rule stores, counts and marks. Assumes nothing.
 use mathlib.Core.Bool.{Bool, true, false, not, _&&_}
 use mathlib.Core.List.{List}
-use mathlib.Core.Path.{_≡_, refl, sym, ap, ap₂, _∙_}
+use mathlib.Core.Path.{_≡_, refl, sym, ap, _∙_}
+use mathlib.Core.Logic.{⊎-elim}
 use Prim.Native.Nat.{ℕ, _+_, _<_, _≤_}
 use native.Mathlib.Omega.{arith}
-use lib.Dec.{eqb}
+use mir.Syntax.{w32}
+use mir.Val.{ofZ}
+use borrow.Author.Tests.{ltb-true, lt-ltb, le-ltb}
+use lib.Dec.{ltb, eqb}
+use lib.IntN.{ℤ, pos}
 use lib.ListN.{length, set}
+use Rattle.base.proofs.Tests.{fails, le-or-lt}
 use lib.Seq.{set-getD, set-out}
 use Rattle.cell_record.specs.declared.CellConfig.{CellConfig}
 use Rattle.machine_state.specs.declared.Answer.{Answer}
 use Rattle.machine_state.specs.declared.Answer.the-variants.{Done}
-use Rattle.machine_state.specs.declared.Cell.{Cell}
 use Rattle.machine_state.specs.declared.CommRegion.{CommRegion}
 use Rattle.machine_state.specs.declared.Cpu.{Cpu}
 use Rattle.machine_state.specs.declared.Machine.{Machine}
 use Rattle.machine_state.specs.declared.Stepped.{Stepped}
 use Rattle.machine_state.specs.declared.Waiting.{Waiting}
-use Rattle.machine_state.specs.Machine.{cellIn, commIn, cpuIn, pastCpu, maxCpus}
-use Rattle.rules.specs.State.{rootId, failed, isFinal, cellAt, commAt, withWaiting, withComm, withCpus, answered}
+use Rattle.machine_state.specs.Machine.{pastCpu, maxCells, maxCpus}
+use Rattle.rules.specs.State.{rootId, failed, isFinal, cellAt, commAt, stateAt, cpuAt, withWaiting, withComm, withCpus, answered}
 use Rattle.rules.specs.Effects.{counted, exitCounter, stored, withState, failCpu, allFailed, cellFailed, faulted}
 use Rattle.cpu_table.specs.declared.CpuChange.{CpuChange}
 use Rattle.cpu_table.specs.declared.CpuChange.the-variants as CpuChange
 use Rattle.cpu_table.specs.CpuTable.{changeOf, touched}
+use Rattle.cpu_table.proofs.Laws.{cpu-inside}
 use Rattle.comms.specs.declared.WordsChange.the-variants.{Store}
-use Rattle.comms.specs.Comms.{wordsOf, wordsAt}
+use Rattle.comms.specs.Comms.{wordsOf, wordsAt, Index, cellIndex}
+use Rattle.comms.proofs.Laws.{cell-inside}
 use Rattle.asking.specs.declared.Effect.the-variants.{NoEffect}
 use Rattle.asking.specs.declared.Move.{Move}
 use Rattle.asking.specs.Moves.{effectOf, moved, Moves}
 use Rattle.decide.specs.declared.Decision.{Decision}
-use Rattle.decide.specs.Decide.{settled, Settles, CellFails}
+use Rattle.decide.specs.Decide.{settled, Settles, cellFails, scanOf, Faulty}
 
 -- a decision by one rule is one by another that says the same of its machines
 pub settles-as : {has one : Machine → Type 0} {new : CellConfig} {rule first : Machine → Stepped} {d : Decision} → Settles one new first d
@@ -69,13 +76,13 @@ module _ (waiting : Waiting) (new : CellConfig) (m : Machine) (w : m .waiting �
   unfolding moved effectOf wordsAt withComm withWaiting
   stored-at cell word value = ap (λ (call : Waiting). answered Done (withWaiting call (wordsAt cell (Store word value) m))) (sym w)
 
-  pub stores : (cpu word value : ℕ) (cpus : List Cpu) → m .cpus ≡ cpus
-      → settled (record { cpu = cpu; touch = CpuChange.Keep; moves = store-at (cpuIn cpus cpu .cell) word value }) new m
+  pub stores : (cpu word value : ℕ) (p : Cpu) → cpuAt m cpu ≡ p
+      → settled (record { cpu = cpu; touch = CpuChange.Keep; moves = store-at (p .cell) word value }) new m
       ≡ answered Done (stored cpu word value m)
   unfolding settled stored wordsAt wordsOf
-  stores cpu word value cpus e =
-      ap (moved (store-at (cpuIn cpus cpu .cell) word value) new) (kept-cpu cpu m) ∙ stored-at (cpuIn cpus cpu .cell) word value
-      ∙ ap (λ (ps : List Cpu). answered Done (wordsAt (cpuIn ps cpu .cell) (Store word value) m)) (sym e)
+  stores cpu word value p e =
+      ap (moved (store-at (p .cell) word value) new) (kept-cpu cpu m) ∙ stored-at (p .cell) word value
+      ∙ ap (λ (x : Cpu). answered Done (wordsAt (x .cell) (Store word value) m)) (sym e)
 
 -- ---- faults
 
@@ -103,47 +110,101 @@ module _ (id : ℕ) (m : Machine) where
       }) (set-out (m .comms) id (withState failed (commAt m id)) h)
       go false = refl
 
-  pub tested-cell : (room : List Cell) (table : List CommRegion) (ps : List Cpu) (all final : Bool) → m .cells ≡ room → m .comms ≡ table
-      → m .cpus ≡ ps → all ≡ allFailed (cellIn room id .cpus) ps → final ≡ isFinal (commIn table id .«cell_state»)
-      → cellFailed id m ≡ by-test (not (eqb id rootId) && all && not final)
+  -- of a cell of the table, the test is the rule's
+  pub tested-cell : id < maxCells
+      → cellFailed id m ≡ by-test (not (eqb id rootId) && ltb id maxCells && allFailed (cellAt m id .cpus) (m .cpus) && not (isFinal (stateAt m id)))
   unfolding cellFailed
-  tested-cell room table ps all final c w p a f =
-      sym (ap₂ (λ (x y : Bool). by-test (not (eqb id rootId) && x && not y))
-      (a ∙ ap₂ (λ (cs : List Cell) (qs : List Cpu). allFailed (cellIn cs id .cpus) qs) (sym c) (sym p))
-      (f ∙ ap (λ (t : List CommRegion). isFinal (commIn t id .«cell_state»)) (sym w)))
+  tested-cell h =
+      rw (lt-ltb id maxCells h)
+      (ap by-test (known (not (eqb id rootId)) (allFailed (cellAt m id .cpus) (m .cpus)) (not (isFinal (stateAt m id)))))
+    where
+      known : (a b c : Bool) → (a && b && c) ≡ (a && true && b && c)
+      known true b c = refl
+      known false b c = refl
 
-module _ (cells : List Cell) (comms : List CommRegion) (cpus : List Cpu) (waiting : Waiting) (cpu : ℕ) where
-  -- a machine with these parts
-  abbrev Faulty : Machine → Type 0
-  Faulty m = (m .cells ≡ cells) × (m .comms ≡ comms) × (m .cpus ≡ cpus) × (m .waiting ≡ waiting)
-
-  abbrev pub Test : Bool → Type 0
-  Test fails = CellFails cells comms (set cpus cpu (failCpu (cpuIn cpus cpu))) (cpuIn cpus cpu .cell) fails
-
+module _ (cpu : ℕ) (m : Machine) where
   -- the machine with the CPU failed, and its cell by the test
-  by-fault : (fails : Bool) → Test fails → (m : Machine) → Faulty m
-      → by-test (cpuIn cpus cpu .cell) (touched cpu CpuChange.Fail m) fails ≡ faulted cpu m
-  unfolding faulted touched changeOf withCpus
-  by-fault fails t m h =
-      sym (t .fault (touched cpu CpuChange.Fail m) (h .0) (h .1) (ap (λ (ps : List Cpu). set ps cpu (failCpu (cpuIn ps cpu))) (h .2)))
-      ∙ ap (λ (ps : List Cpu). cellFailed (cpuIn ps cpu .cell) (touched cpu CpuChange.Fail m)) (sym (h .2))
+  abbrev own-cell : ℕ
+  own-cell = cpuAt m cpu .cell
 
-  pub faults : (mv : Move) → cpu < maxCpus → Test false → Moves (λ m. m .waiting ≡ waiting) (λ new m. answered Done m) mv → (new : CellConfig)
-      → Settles Faulty new (λ m. answered Done (faulted cpu m)) (record { cpu = cpu; touch = CpuChange.Fail; moves = mv })
-  faults mv h t r new =
-      settles-as (only-cpu cpu CpuChange.Fail Done waiting mv h r new) (λ m e. e .3) (λ m e. ap (answered Done) (by-fault false t m e))
+  abbrev others : Bool
+  others = allFailed (cellAt m own-cell .cpus) (set (m .cpus) cpu (failCpu (cpuAt m cpu)))
 
-  pub fails-cell : cpu < maxCpus → Test true → (new : CellConfig)
-      → Settles Faulty new (λ m. answered Done (faulted cpu m))
+  pub by-fault : length (m .comms) ≡ maxCells → by-test own-cell (touched cpu CpuChange.Fail m) (cellFails cpu m) ≡ faulted cpu m
+  unfolding faulted touched changeOf withCpus cellFails
+  by-fault size = ⊎-elim past within (le-or-lt maxCells own-cell)
+    where
+      none : (a b c : Bool) → (a && false && b && c) ≡ false
+      none true b c = refl
+      none false b c = refl
+
+      past : maxCells ≤ own-cell → by-test own-cell (touched cpu CpuChange.Fail m) (cellFails cpu m) ≡ faulted cpu m
+      past h =
+          let short : length (m .comms) ≤ own-cell = omega (arith, size, h) in
+          let no : cellFails cpu m ≡ false =
+          ap (λ (b : Bool). not (eqb own-cell rootId) && b && others && not (isFinal (stateAt m own-cell))) (le-ltb own-cell maxCells h)
+          ∙ none (not (eqb own-cell rootId)) others (not (isFinal (stateAt m own-cell))) in
+          ap (by-test own-cell (touched cpu CpuChange.Fail m)) no ∙ sym (past-cell own-cell (touched cpu CpuChange.Fail m) short)
+
+      within : own-cell < maxCells → by-test own-cell (touched cpu CpuChange.Fail m) (cellFails cpu m) ≡ faulted cpu m
+      within h = sym (tested-cell own-cell (touched cpu CpuChange.Fail m) h)
+
+  -- a cell that fails is in the table
+  pub fails-inside : cellFails cpu m ≡ true → own-cell < maxCells
+  unfolding cellFails
+  fails-inside e = ltb-true own-cell maxCells (second (not (eqb own-cell rootId)) (ltb own-cell maxCells) others (not (isFinal (stateAt m own-cell))) e)
+    where
+      second : (a b c d : Bool) → (a && b && c && d) ≡ true → b ≡ true
+      second true true c d e = refl
+      second true false c d e = absurd (fails {b = true} (sym e) tt)
+      second false b c d e = absurd (fails {b = true} (sym e) tt)
+
+module _ (scan : ℤ) (p : Cpu) (waiting : Waiting) (cpu : ℕ) (inside : cpu < maxCpus) where
+  -- what the scan of a fault says
+  pub scan-fails : (m : Machine) → Faulty scan p waiting cpu m → (b : Bool) → cellFails cpu m ≡ b → scan ≡ elim b as (λ x. ℤ) [ true ↦ pos 1 | false ↦ pos 0 ]
+  unfolding scanOf
+  scan-fails m h b e =
+      h .scan ∙ ap (λ (k : ℕ). elim (cellFails k m) as (λ x. ℤ) [ true ↦ pos 1 | false ↦ pos 0 ]) (cpu-inside cpu inside)
+      ∙ ap (λ (x : Bool). elim x as (λ y. ℤ) [ true ↦ pos 1 | false ↦ pos 0 ]) e
+
+  pub scan-none : (m : Machine) → Faulty scan p waiting cpu m → ofZ w32 scan ≡ 0 → cellFails cpu m ≡ false
+  scan-none m h z = go (cellFails cpu m) refl
+    where
+      one : (n : ℤ) → n ≡ pos 1 → ofZ w32 n ≡ 0 → ⊥
+      one n e q = let k : _≡_ {A = ℕ} 1 0 = sym (ap (ofZ w32) e) ∙ q in omega arith
+
+      go : (b : Bool) → cellFails cpu m ≡ b → b ≡ false
+      go true e = absurd (one scan (scan-fails m h true e) z)
+      go false e = refl
+
+  pub scan-some : (m : Machine) → Faulty scan p waiting cpu m → (ofZ w32 scan ≡ 0 → ⊥) → cellFails cpu m ≡ true
+  scan-some m h n = go (cellFails cpu m) refl
+    where
+      go : (b : Bool) → cellFails cpu m ≡ b → b ≡ true
+      go true e = refl
+      go false e = absurd (n (ap (ofZ w32) (scan-fails m h false e)))
+
+  pub faults : (mv : Move) → ofZ w32 scan ≡ 0 → Moves (λ m. m .waiting ≡ waiting) (λ new m. answered Done m) mv → (new : CellConfig)
+      → Settles (Faulty scan p waiting cpu) new (λ m. answered Done (faulted cpu m)) (record { cpu = cpu; touch = CpuChange.Fail; moves = mv })
+  faults mv z r new =
+      settles-as (only-cpu cpu CpuChange.Fail Done waiting mv inside r new) (λ m h. h .waits)
+      (λ m h. ap (answered Done)
+      (ap (by-test (cpuAt m cpu .cell) (touched cpu CpuChange.Fail m)) (sym (scan-none m h z)) ∙ by-fault cpu m (h .size)))
+
+  pub fails-cell : (place : ℕ) → Index (cellIndex (p .cell)) maxCells place → (ofZ w32 scan ≡ 0 → ⊥) → (new : CellConfig)
+      → Settles (Faulty scan p waiting cpu) new (λ m. answered Done (faulted cpu m))
       (record {
         cpu = cpu;
         touch = CpuChange.Fail;
-        moves = record { answer = Done; effect = NoEffect; cell = cpuIn cpus cpu .cell; words = Store 2 failed; waiting = waiting };
+        moves = record { answer = Done; effect = NoEffect; cell = place; words = Store 2 failed; waiting = waiting };
       })
   unfolding settled wordsAt wordsOf touched withCpus
-  fails-cell h t new = record {
-    settles = λ m e. stored-at waiting new (touched cpu CpuChange.Fail m) (e .3) (cpuIn cpus cpu .cell) 2 failed
-        ∙ ap (answered Done) (by-fault true t m e);
-    cpu = h;
-    cell = t .place refl;
+  fails-cell place i n new = record {
+    settles = λ m h. let fails = scan-some m h n in
+        ap (λ (k : ℕ). moved (record { answer = Done; effect = NoEffect; cell = k; words = Store 2 failed; waiting = waiting }) new (touched cpu CpuChange.Fail m))
+        (i .is ∙ ap cellIndex (ap (λ (x : Cpu). x .cell) (sym (h .own))) ∙ cell-inside (cpuAt m cpu .cell) (fails-inside cpu m fails))
+        ∙ stored-at waiting new (touched cpu CpuChange.Fail m) (h .waits) (cpuAt m cpu .cell) 2 failed
+        ∙ ap (answered Done) (ap (by-test (cpuAt m cpu .cell) (touched cpu CpuChange.Fail m)) (sym fails) ∙ by-fault cpu m (h .size));
+    cpu = inside;
+    cell = i .inside;
   }

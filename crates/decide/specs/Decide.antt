@@ -1,8 +1,12 @@
 -- A decision: what is done to one CPU, and then the move.
 use mathlib.Core.Path.{_≡_}
-use mathlib.Core.Bool.{Bool, true, false}
-use mathlib.Core.List.{List}
+use mathlib.Core.Bool.{Bool, true, false, not, _&&_}
+use mathlib.Core.List.{List, []}
 use Prim.Native.Nat.{ℕ, _<_}
+use lib.Dec.{ltb, eqb}
+use lib.IntN.{ℤ, pos}
+use lib.ListN.{length, set}
+use Rattle.system_record.specs.declared.Pool.{Pool}
 use Rattle.system_record.specs.declared.SystemConfig.{SystemConfig}
 use Rattle.cell_record.specs.declared.CellConfig.{CellConfig}
 use Rattle.cell_record.specs.CellRecord.{cellOf}
@@ -10,41 +14,119 @@ use Rattle.machine_state.specs.declared.Cpu.{Cpu}
 use Rattle.machine_state.specs.declared.Cell.{Cell}
 use Rattle.machine_state.specs.declared.CommRegion.{CommRegion}
 use Rattle.machine_state.specs.declared.Event.{Event}
-use Rattle.machine_state.specs.declared.Answer.{Answer}
+use Rattle.machine_state.specs.declared.Event.the-variants.{Call, Store, Fault, Exit, Poll, Malformed}
 use Rattle.machine_state.specs.declared.Machine.{Machine}
 use Rattle.machine_state.specs.declared.Stepped.{Stepped}
 use Rattle.machine_state.specs.declared.Waiting.{Waiting}
 use Rattle.machine_state.specs.Machine.{maxCells, maxCpus}
-use Rattle.rules.specs.State.{commAt, failed, withComm, answered}
-use Rattle.rules.specs.Effects.{counted, callCounter, withState, cellFailed}
-use Rattle.rules.specs.Calls.{createCall, callByCode}
+use Rattle.rules.specs.State.{rootId, bootCpus, cellAt, commAt, stateAt, cpuAt, isFinal}
+use Rattle.rules.specs.Effects.{counted, callCounter, failCpu, allFailed}
+use Rattle.rules.specs.Calls.{cellCreate, createCall}
 use Rattle.rules.specs.Step.{step}
-use Rattle.cpu_table.specs.CpuTable.{touched}
+use Rattle.cpu_table.specs.CpuTable.{touched, cpuIndex}
+use Rattle.comms.specs.Comms.{cellIndex}
 use Rattle.asking.specs.declared.Move.{Move}
 use Rattle.asking.specs.Moves.{moved}
+use Rattle.unobeyed.specs.Admission.{cpuFor, askedFor, cellFor, Looks}
+use Rattle.create_rules.specs.Rows.{createCode}
 use Rattle.decide.specs.declared.Decision.{Decision}
 
 -- a decision applied: the CPU first, then the move
 unfoldable pub settled : Decision → CellConfig → Machine → Stepped
 settled d new m = moved (d .moves) new (touched (d .cpu) (d .touch) m)
 
--- a decision on an event is right: applied, it is the rule's step, and the CPU and the words that it names are in their tables
-pub record Decided (m : Machine) (e : Event) (bytes : List ℕ) (d : Decision) : Type 0 where
-  pub steps : settled d (cellOf bytes) m ≡ step e bytes m
-  pub cpu : d .cpu < maxCpus
-  pub cell : d .moves .cell < maxCells
-
--- the same of a part of the rule, at every machine that has the parts from which it was decided
+-- a decision is right: applied, it is the rule's step at every machine that has the parts from which it was decided, and the CPU and the words
+-- that it names are in their tables
 pub record Settles (has : Machine → Type 0) (new : CellConfig) (rule : Machine → Stepped) (d : Decision) : Type 0 where
   pub settles : (m : Machine) → has m → settled d new m ≡ rule m
   pub cpu : d .cpu < maxCpus
   pub cell : d .moves .cell < maxCells
 
--- the test of a fault is right: by it the cell's state becomes failed, or nothing more happens; what is stored to is in the table
-pub record CellFails (room : List Cell) (table : List CommRegion) (ps : List Cpu) (id : ℕ) (fails : Bool) : Type 0 where
-  pub fault : (m : Machine) → m .cells ≡ room → m .comms ≡ table → m .cpus ≡ ps
-      → cellFailed id m ≡ elim fails as (λ x. Machine) [ true ↦ withComm id (withState failed (commAt m id)) m | false ↦ m ]
-  pub place : fails ≡ true → id < maxCells
+-- the same of an event's whole step, whatever record comes with it
+pub record Decides (has : List ℕ → Machine → Type 0) (e : Event) (d : Decision) : Type 0 where
+  pub settles : (bytes : List ℕ) (m : Machine) → has bytes m → settled d (cellOf bytes) m ≡ step e bytes m
+  pub cpu : d .cpu < maxCpus
+  pub cell : d .moves .cell < maxCells
+
+-- ---- what only a look through whole tables says of an event
+
+-- once CPU `cpu` has failed, the state of its cell becomes failed
+unfoldable pub cellFails : ℕ → Machine → Bool
+cellFails cpu m =
+    let id = cpuAt m cpu .cell in
+    not (eqb id rootId) && ltb id maxCells && allFailed (cellAt m id .cpus) (set (m .cpus) cpu (failCpu (cpuAt m cpu))) && not (isFinal (stateAt m id))
+
+-- of a Create, already counted, the code that refuses it, or 0; of a fault 1 where the cell fails; of any other event 0
+unfoldable pub scanOf : Event → List ℕ → Machine → ℤ
+scanOf (Call cpu code a1 a2) bytes m = elim (eqb code cellCreate) [ true ↦ createCode cpu bytes (counted callCounter cpu m) | false ↦ pos 0 ]
+scanOf (Store cpu word value) bytes m = pos 0
+scanOf (Fault cpu) bytes m = elim (cellFails (cpuIndex cpu) m) [ true ↦ pos 1 | false ↦ pos 0 ]
+scanOf (Exit cpu kind) bytes m = pos 0
+scanOf Poll bytes m = pos 0
+scanOf Malformed bytes m = pos 0
+
+-- ---- the parts of a machine from which an event is decided
+
+pub record Parts (started : ℕ) (main other : Pool) (pages live : ℕ) (table : List CommRegion) (call : Waiting) (m : Machine) : Type 0 where
+  pub boot : bootCpus m ≡ started
+  pub pool : m .system .pool ≡ main
+  pub remap : m .system .remap ≡ other
+  pub used : m .«pool_used» ≡ pages
+  pub ids : m .«live_ids» ≡ live
+  pub words : m .comms ≡ table
+  pub waits : m .waiting ≡ call
+
+-- of the tables: the event's CPU and the words that matter to it, the CPU that is asked about, and what a scan found
+pub record Shows (e : Event) (bytes : List ℕ) (p : Cpu) (w : CommRegion) (q : Cpu) (found : ℤ) (m : Machine) : Type 0 where
+  pub looks : Looks e p w m
+  pub asked : cpuAt m (askedFor e) ≡ q
+  pub size : length (m .cpus) ≡ maxCpus
+  pub scan : found ≡ scanOf e bytes m
+
+pub record AllParts (boot : ℕ) (pool remap : Pool) (pages live : ℕ) (table : List CommRegion) (call : Waiting) (e : Event) (bytes : List ℕ) (p : Cpu)
+    (w : CommRegion) (q : Cpu) (found : ℤ) (m : Machine) : Type 0 where
+  pub parts : Parts boot pool remap pages live table call m
+  pub shows : Shows e bytes p w q found m
+
+-- the same of a call, with its caller's CPU
+pub record CallParts (boot : ℕ) (pool remap : Pool) (pages live : ℕ) (table : List CommRegion) (call : Waiting) (cpu code a1 : ℕ) (bytes : List ℕ) (p : Cpu)
+    (w : CommRegion) (q : Cpu) (found : ℤ) (m : Machine) : Type 0 where
+  pub parts : Parts boot pool remap pages live table call m
+  pub caller : cpuAt m cpu ≡ p
+  pub words : commAt m (cellIndex a1) ≡ w
+  pub asked : cpuAt m (cpuIndex a1) ≡ q
+  pub size : length (m .cpus) ≡ maxCpus
+  pub scan : code ≡ cellCreate → found ≡ createCode cpu bytes (counted callCounter cpu m)
+
+-- those of a fault
+pub record Faulty (found : ℤ) (p : Cpu) (waiting : Waiting) (cpu : ℕ) (m : Machine) : Type 0 where
+  pub own : cpuAt m cpu ≡ p
+  pub waits : m .waiting ≡ waiting
+  pub size : length (m .comms) ≡ maxCells
+  pub scan : found ≡ scanOf (Fault cpu) [] m
+
+-- those that a scan looks through
+pub record Scans (s : SystemConfig) (pages live root : ℕ) (room : List Cell) (table : List CommRegion) (ps : List Cpu) (p : Cpu) (cellSet word : ℕ) (e : Event)
+    (m : Machine) : Type 0 where
+  pub system : m .system ≡ s
+  pub used : m .«pool_used» ≡ pages
+  pub ids : m .«live_ids» ≡ live
+  pub rootCpus : m .«root_cpus» ≡ root
+  pub cells : m .cells ≡ room
+  pub words : m .comms ≡ table
+  pub cpus : m .cpus ≡ ps
+  pub own : cpuAt m (cpuFor e) ≡ p
+  pub set : cellAt m (cellIndex (p .cell)) .cpus ≡ cellSet
+  pub state : stateAt m (cellIndex (cellFor e (p .cell) (m .waiting))) ≡ word
+
+-- what a scan gives: the definition's number; and the tables that it had have a place for each cell and each CPU
+pub record Scanned (room : List Cell) (table : List CommRegion) (ps : List Cpu) (has : Machine → Type 0) (e : Event) (bytes : List ℕ) (r : ℤ) : Type 0 where
+  pub found : (m : Machine) → has m → r ≡ scanOf e bytes m
+  pub cells : length room ≡ maxCells
+  pub words : length table ≡ maxCells
+  pub cpus : length ps ≡ maxCpus
+
+-- ---- what the parts of a decision say
 
 -- a Create's move is right
 pub record Creates (has : Machine → Type 0) (caller : ℕ) (bytes : List ℕ) (mv : Move) : Type 0 where
@@ -55,23 +137,3 @@ pub record Creates (has : Machine → Type 0) (caller : ℕ) (bytes : List ℕ) 
 pub record Calls (has : Machine → Type 0) (cpu : ℕ) (bytes : List ℕ) (rule : Machine → Stepped) (mv : Move) : Type 0 where
   pub moves : (m : Machine) → has m → moved mv (cellOf bytes) (counted callCounter cpu m) ≡ rule (counted callCounter cpu m)
   pub place : mv .cell < maxCells
-
--- the answer of a query is right at the machine where it is counted
-pub record Asked (s : SystemConfig) (pages live : ℕ) (table : List CommRegion) (ps : List Cpu) (cpu code a1 a2 : ℕ) (r : Answer) : Type 0 where
-  pub answers : (m : Machine) (bytes : List ℕ) → m .system ≡ s → m .«pool_used» ≡ pages → m .«live_ids» ≡ live → m .comms ≡ table → m .cpus ≡ ps
-      → answered r (counted callCounter cpu m) ≡ callByCode cpu code a1 a2 bytes (counted callCounter cpu m)
-
--- a machine with these parts, and with these CPUs too
-pub record Parts (s : SystemConfig) (pages live root : ℕ) (room : List Cell) (table : List CommRegion) (call : Waiting) (m : Machine) : Type 0 where
-  pub system : m .system ≡ s
-  pub pool : m .«pool_used» ≡ pages
-  pub ids : m .«live_ids» ≡ live
-  pub rootCpus : m .«root_cpus» ≡ root
-  pub cells : m .cells ≡ room
-  pub words : m .comms ≡ table
-  pub waits : m .waiting ≡ call
-
-pub record AllParts (s : SystemConfig) (pages live root : ℕ) (room : List Cell) (table : List CommRegion) (ps : List Cpu) (call : Waiting)
-    (m : Machine) : Type 0 where
-  pub parts : Parts s pages live root room table call m
-  pub cpus : m .cpus ≡ ps

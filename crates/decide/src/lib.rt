@@ -1,17 +1,26 @@
-// What an event decides: read from the machine's parts and the record's bytes, changing nothing.
+// What an event decides: read from small parts of the machine, changing nothing. Whole tables of cells
+// and CPUs are looked through by `scan` alone.
 ghost use mathlib.Core.Path.{_≡_};
-ghost use Prim.Native.Nat.{_<_, _≤_};
+ghost use mathlib.Core.Bool.{not, _&&_};
+ghost use mathlib.Core.List.{List};
+ghost use Prim.Native.Nat.{ℕ, _<_, _≤_};
+ghost use lib.Dec.{ltb, eqb};
+ghost use lib.IntN.{ℤ};
 ghost use lib.ListN.{set as set-at};
 ghost use Rattle.cell_record.specs.declared.CellConfig.{CellConfig};
 ghost use Rattle.cell_record.specs.CellRecord.{cellOf};
-ghost use Rattle.machine_state.specs.Machine.{cpuIn};
-ghost use Rattle.rules.specs.State.{answered};
-ghost use Rattle.rules.specs.Effects.{counted, exitCounter, stored, failCpu, faulted};
+ghost use Rattle.machine_state.specs.declared.CommRegion.{CommRegion};
+ghost use Rattle.machine_state.specs.declared.Waiting.{Waiting};
+ghost use Rattle.machine_state.specs.declared.Machine.{Machine};
+ghost use Rattle.machine_state.specs.Machine.{cpuIn, maxCells};
+ghost use Rattle.rules.specs.State.{rootId, cpuAt, isFinal, answered};
+ghost use Rattle.rules.specs.Effects.{counted, exitCounter, callCounter, stored, failCpu, allFailed, faulted};
 ghost use Rattle.rules.specs.Calls.{targetCall, callByCode, call as call-of};
 ghost use Rattle.rules.specs.Step.{obeyed};
 ghost use Rattle.asking.specs.Moves.{Waits, Moves};
 ghost use Rattle.unobeyed.specs.Admission.{Placed};
-ghost use Rattle.decide.specs.Decide.{Decided, Settles, CellFails, Creates, Asked, Calls, Parts, AllParts};
+ghost use Rattle.create_rules.specs.Rows.{createCode};
+ghost use Rattle.decide.specs.Decide.{Settles, Decides, Faulty, Creates, Calls, CallParts, AllParts, Scans, Scanned};
 use asking::Effect;
 use asking::Move;
 use base::EINVAL;
@@ -40,6 +49,7 @@ use machine_state::MAX_CELLS;
 use machine_state::MAX_CPUS;
 use machine_state::Power;
 use machine_state::Waiting;
+use system_record::Pool;
 use system_record::SystemConfig;
 use unobeyed::Admission;
 
@@ -64,13 +74,11 @@ fn leave(answer: Answer, waiting: Waiting) -> Decision
     }
 }
 
-// A store that is obeyed.
-fn store(cpus: [Cpu; MAX_CPUS], waiting: Waiting, cpu: u64, word: u64, value: u32) -> Decision
-    requires { ⌜ (cpu < 64) × (cpuIn cpus cpu .cell < 16) ⌝ }
-    ensures { λ r. ⌜ ((new : CellConfig) → Settles (λ m. (m .cpus ≡ cpus) × (m .waiting ≡ waiting)) new (λ m. answered Answer.Done (stored cpu word value m)) r) ⌝ }
+// A store that is obeyed, on CPU `cpu`, which is `p`.
+fn store(p: Cpu, waiting: Waiting, cpu: u64, word: u64, value: u32) -> Decision
+    requires { ⌜ (cpu < 64) × (p .cell < 16) ⌝ }
+    ensures { λ r. ⌜ ((new : CellConfig) → Settles (λ m. (cpuAt m cpu ≡ p) × (m .waiting ≡ waiting)) new (λ m. answered Answer.Done (stored cpu word value m)) r) ⌝ }
 {
-    let k = cpu as usize;
-    let p = cpus[k];
     let moves = Move {
         answer: Answer::Done,
         effect: Effect::NoEffect,
@@ -79,7 +87,7 @@ fn store(cpus: [Cpu; MAX_CPUS], waiting: Waiting, cpu: u64, word: u64, value: u3
         waiting,
     };
     Decision {
-        cpu: k,
+        cpu: cpu as usize,
         touch: CpuChange::Keep,
         moves,
     }
@@ -97,56 +105,31 @@ fn exit(waiting: Waiting, cpu: u64, kind: u64) -> Decision
     }
 }
 
-// Whether the state of cell `id` becomes failed once CPU `cpu` is.
-fn cell_fails(
-    cells: [Cell; MAX_CELLS],
-    comms: [CommRegion; MAX_CELLS],
-    cpus: [Cpu; MAX_CPUS],
-    cpu: usize,
-    id: usize,
-) -> bool
-    ensures { λ r. ⌜ CellFails cells comms (set-at cpus cpu (failCpu (cpuIn cpus cpu))) id r ⌝ }
-{
-    if id >= MAX_CELLS {
-        return false;
-    }
-    let c = cells[id];
-    let w = comms[id];
-    !(id == 0) & cpu_table::all_failed(c.cpus, cpu, cpus) & !comms::is_final(w.cell_state)
-}
-
-// A fault that is obeyed.
-fn fault(
-    cells: [Cell; MAX_CELLS],
-    comms: [CommRegion; MAX_CELLS],
-    cpus: [Cpu; MAX_CPUS],
-    waiting: Waiting,
-    cpu: u64,
-) -> Decision
+// A fault that is obeyed, on CPU `cpu`, which is `p`; by `scan` the cell fails with it.
+fn fault(scan: i32, p: Cpu, waiting: Waiting, cpu: u64) -> Decision
     requires { ⌜ cpu < 64 ⌝ }
-    ensures { λ r. ⌜ ((new : CellConfig) → Settles (λ m. (m .cells ≡ cells) × (m .comms ≡ comms) × (m .cpus ≡ cpus) × (m .waiting ≡ waiting)) new (λ m. answered Answer.Done (faulted cpu m)) r) ⌝ }
+    ensures { λ r. ⌜ ((new : CellConfig) → Settles (Faulty scan p waiting cpu) new (λ m. answered Answer.Done (faulted cpu m)) r) ⌝ }
 {
-    let k = cpu as usize;
-    let p = cpus[k];
     let touch = CpuChange::Fail;
-    if cell_fails(cells, comms, cpus, k, p.cell) {
-        let moves = Move {
-            answer: Answer::Done,
-            effect: Effect::NoEffect,
-            cell: p.cell,
-            words: WordsChange::Store(STATE_WORD, FAILED),
-            waiting,
-        };
+    let k = cpu as usize;
+    if scan == 0 {
         return Decision {
             cpu: k,
             touch,
-            moves,
+            moves: asking::stay(Answer::Done, waiting),
         };
     }
+    let moves = Move {
+        answer: Answer::Done,
+        effect: Effect::NoEffect,
+        cell: comms::cell_index(p.cell),
+        words: WordsChange::Store(STATE_WORD, FAILED),
+        waiting,
+    };
     Decision {
         cpu: k,
         touch,
-        moves: asking::stay(Answer::Done, waiting),
+        moves,
     }
 }
 
@@ -173,99 +156,70 @@ fn target_call(
     asking::ask(live_ids, comms, kind, target, 0)
 }
 
-// Create, from the record's bytes.
-fn create_call(
-    system: SystemConfig,
-    pool_used: u32,
-    live_ids: u16,
-    root_cpus: u64,
-    cells: [Cell; MAX_CELLS],
-    comms: [CommRegion; MAX_CELLS],
-    waiting: Waiting,
-    caller: u64,
-    record: &[u8],
-) -> Move
-    ensures { λ r. ⌜ Creates (Parts system «pool_used» «live_ids» «root_cpus» cells comms waiting) caller (now («record» .entry)) r ⌝ }
+// Create, which `scan` refuses or lets through.
+fn create_call(live_ids: u16, comms: [CommRegion; MAX_CELLS], waiting: Waiting, scan: i32) -> Move
+    ensures { λ r. ⌜ ((caller : ℕ) (bytes : List ℕ) → Creates (λ m. Waits «live_ids» comms waiting m × (scan ≡ createCode caller bytes m)) caller bytes r) ⌝ }
 {
-    let admission = create_rules::admit_create(
-        system,
-        pool_used,
-        live_ids,
-        root_cpus,
-        cells,
-        comms,
-        caller,
-        record,
-    );
-    match admission {
-        Admission::Refused(answer) => asking::stay(answer, waiting),
-        Admission::Admitted => {
-            let id = comms::free_id(live_ids);
-            asking::ask(live_ids, comms, CallKind::Create, id, 0)
-        }
+    if scan == 0 {
+        let id = comms::free_id(live_ids);
+        return asking::ask(live_ids, comms, CallKind::Create, id, 0);
     }
+    asking::stay(Answer::Code(scan), waiting)
 }
 
-// The answer of a query.
+// The answer of a query of CPU `cpu`, which is `p`, with the words and the CPU that it asks about.
 fn query(
-    system: SystemConfig,
+    boot_cpus: u64,
+    pool: Pool,
+    remap: Pool,
     pool_used: u32,
     live_ids: u16,
-    comms: [CommRegion; MAX_CELLS],
-    cpus: [Cpu; MAX_CPUS],
-    cpu: usize,
+    p: Cpu,
+    w: CommRegion,
+    q: Cpu,
+    cpu: u64,
     code: u32,
     a1: u64,
     a2: u64,
 ) -> Answer
     requires { ⌜ (cpu < 64) × (4 < code) × (code ≤ 7) ⌝ }
-    ensures { λ r. ⌜ Asked system «pool_used» «live_ids» comms cpus cpu code a1 a2 r ⌝ }
+    ensures { λ r. ⌜ ((table : List CommRegion) (waiting : Waiting) (bytes : List ℕ) (scan : ℤ) (m : Machine) → CallParts «boot_cpus» pool remap «pool_used» «live_ids» table waiting cpu code a1 bytes p w q scan m → answered r (counted callCounter cpu m) ≡ callByCode cpu code a1 a2 bytes (counted callCounter cpu m)) ⌝ }
 {
-    let pool = system.pool;
-    let remap = system.remap;
     if code == HYPERVISOR_GET_INFO {
         return queries::get_info(pool, remap, pool_used, live_ids, a1);
     }
     if code == CELL_GET_STATE {
-        return queries::get_state(live_ids, comms, a1);
+        return queries::get_state(live_ids, w, a1);
     }
-    queries::cpu_get_info(system.cpus, cpus, cpu, a1, a2)
+    queries::cpu_get_info(boot_cpus, p, q, cpu, a1, a2)
 }
 
 // The call that a code means, already counted.
 fn by_code(
-    system: SystemConfig,
+    boot_cpus: u64,
+    pool: Pool,
+    remap: Pool,
     pool_used: u32,
     live_ids: u16,
-    root_cpus: u64,
-    cells: [Cell; MAX_CELLS],
     comms: [CommRegion; MAX_CELLS],
-    cpus: [Cpu; MAX_CPUS],
     waiting: Waiting,
+    p: Cpu,
+    w: CommRegion,
+    q: Cpu,
+    scan: i32,
     cpu: u64,
     code: u32,
     a1: u64,
     a2: u64,
-    record: &[u8],
 ) -> Move
     requires { ⌜ (cpu < 64) × (code ≤ 7) ⌝ }
-    ensures { λ r. ⌜ Calls (AllParts system «pool_used» «live_ids» «root_cpus» cells comms cpus waiting) cpu (now («record» .entry)) (callByCode cpu code a1 a2 (now («record» .entry))) r ⌝ }
+    ensures { λ r. ⌜ ((bytes : List ℕ) → Calls (CallParts «boot_cpus» pool remap «pool_used» «live_ids» comms waiting cpu code a1 bytes p w q scan) cpu bytes (callByCode cpu code a1 a2 bytes) r) ⌝ }
 {
     if code == HYPERVISOR_DISABLE {
         return asking::ask(live_ids, comms, CallKind::Disable, 0, 0);
     }
     if code == CELL_CREATE {
-        return create_call(
-            system,
-            pool_used,
-            live_ids,
-            root_cpus,
-            cells,
-            comms,
-            waiting,
-            cpu,
-            record,
-        );
+        return create_call(live_ids, comms, waiting, scan);
     }
     if code == CELL_START {
         return target_call(live_ids, comms, waiting, CallKind::Start, a1);
@@ -276,87 +230,105 @@ fn by_code(
     if code == CELL_DESTROY {
         return target_call(live_ids, comms, waiting, CallKind::Destroy, a1);
     }
-    let k = cpu as usize;
-    let answer = query(system, pool_used, live_ids, comms, cpus, k, code, a1, a2);
+    let answer = query(
+        boot_cpus,
+        pool,
+        remap,
+        pool_used,
+        live_ids,
+        p,
+        w,
+        q,
+        cpu,
+        code,
+        a1,
+        a2,
+    );
     asking::stay(answer, waiting)
 }
 
 // A call that is obeyed, already counted.
 fn call(
-    system: SystemConfig,
+    boot_cpus: u64,
+    pool: Pool,
+    remap: Pool,
     pool_used: u32,
     live_ids: u16,
-    root_cpus: u64,
-    cells: [Cell; MAX_CELLS],
     comms: [CommRegion; MAX_CELLS],
-    cpus: [Cpu; MAX_CPUS],
     waiting: Waiting,
+    p: Cpu,
+    w: CommRegion,
+    q: Cpu,
+    scan: i32,
     cpu: u64,
     code: u32,
     a1: u64,
     a2: u64,
-    record: &[u8],
 ) -> Move
     requires { ⌜ cpu < 64 ⌝ }
-    ensures { λ r. ⌜ Calls (AllParts system «pool_used» «live_ids» «root_cpus» cells comms cpus waiting) cpu (now («record» .entry)) (call-of cpu code a1 a2 (now («record» .entry))) r ⌝ }
+    ensures { λ r. ⌜ ((bytes : List ℕ) → Calls (CallParts «boot_cpus» pool remap «pool_used» «live_ids» comms waiting cpu code a1 bytes p w q scan) cpu bytes (call-of cpu code a1 a2 bytes) r) ⌝ }
 {
     if CPU_GET_INFO < code {
         return asking::stay(Answer::Code(ENOSYS), waiting);
     }
-    let k = cpu as usize;
-    let p = cpus[k];
     if !(p.cell == 0) & ((code <= CELL_DESTROY) | (code == CELL_GET_STATE)) {
         return asking::stay(Answer::Code(EPERM), waiting);
     }
     by_code(
-        system,
+        boot_cpus,
+        pool,
+        remap,
         pool_used,
         live_ids,
-        root_cpus,
-        cells,
         comms,
-        cpus,
         waiting,
+        p,
+        w,
+        q,
+        scan,
         cpu,
         code,
         a1,
         a2,
-        record,
     )
 }
 
 // An event that is obeyed.
 fn obey(
-    system: SystemConfig,
+    boot_cpus: u64,
+    pool: Pool,
+    remap: Pool,
     pool_used: u32,
     live_ids: u16,
-    root_cpus: u64,
-    cells: [Cell; MAX_CELLS],
     comms: [CommRegion; MAX_CELLS],
-    cpus: [Cpu; MAX_CPUS],
     waiting: Waiting,
+    p: Cpu,
+    w: CommRegion,
+    q: Cpu,
+    scan: i32,
     e: Event,
-    record: &[u8],
 ) -> Decision
-    requires { ⌜ Placed cpus e ⌝ }
-    ensures { λ r. ⌜ Settles (AllParts system «pool_used» «live_ids» «root_cpus» cells comms cpus waiting) (cellOf (now («record» .entry))) (obeyed e (now («record» .entry))) r ⌝ }
+    requires { ⌜ Placed p e ⌝ }
+    ensures { λ r. ⌜ ((bytes : List ℕ) → Settles (AllParts «boot_cpus» pool remap «pool_used» «live_ids» comms waiting e bytes p w q scan) (cellOf bytes) (obeyed e bytes) r) ⌝ }
 {
     match e {
         Event::Call(cpu, code, a1, a2) => {
             let moves = call(
-                system,
+                boot_cpus,
+                pool,
+                remap,
                 pool_used,
                 live_ids,
-                root_cpus,
-                cells,
                 comms,
-                cpus,
                 waiting,
+                p,
+                w,
+                q,
+                scan,
                 cpu,
                 code,
                 a1,
                 a2,
-                record,
             );
             Decision {
                 cpu: cpu as usize,
@@ -364,21 +336,69 @@ fn obey(
                 moves,
             }
         }
-        Event::Store(cpu, word, value) => store(cpus, waiting, cpu, word, value),
-        Event::Fault(cpu) => fault(cells, comms, cpus, waiting, cpu),
+        Event::Store(cpu, word, value) => store(p, waiting, cpu, word, value),
+        Event::Fault(cpu) => fault(scan, p, waiting, cpu),
         Event::Exit(cpu, kind) => exit(waiting, cpu, kind),
         Event::Poll => Decision {
             cpu: 0,
             touch: CpuChange::Keep,
-            moves: asking::poll(live_ids, comms, waiting),
+            moves: asking::poll(live_ids, comms, w, waiting),
         },
         Event::Malformed => leave(Answer::Bad, waiting),
     }
 }
 
-// Decides on an event. A call with code 1 comes with its record's bytes.
+// Decides on an event: on its CPU `p`, with the words `w` that matter to it, the CPU `q` that it asks
+// about, and what `scan` found.
 pub fn decide(
     power: Power,
+    boot_cpus: u64,
+    pool: Pool,
+    remap: Pool,
+    pool_used: u32,
+    live_ids: u16,
+    comms: [CommRegion; MAX_CELLS],
+    waiting: Waiting,
+    p: Cpu,
+    w: CommRegion,
+    q: Cpu,
+    scan: i32,
+    e: Event,
+) -> Decision
+    ensures { λ r. ⌜ Decides (λ bytes m. (m .power ≡ power) × AllParts «boot_cpus» pool remap «pool_used» «live_ids» comms waiting e bytes p w q scan m) e r ⌝ }
+{
+    let admission = unobeyed::admit(power, boot_cpus, p, w, waiting, e);
+    match admission {
+        Admission::Refused(answer) => leave(answer, waiting),
+        Admission::Admitted => obey(
+            boot_cpus,
+            pool,
+            remap,
+            pool_used,
+            live_ids,
+            comms,
+            waiting,
+            p,
+            w,
+            q,
+            scan,
+            e,
+        ),
+    }
+}
+
+// Whether the state of cell `id`, which is `state`, becomes failed once CPU `cpu` is; `set` are the
+// cell's CPUs.
+fn cell_fails(set: u64, id: usize, state: u32, cpus: [Cpu; MAX_CPUS], cpu: usize) -> bool
+    ensures { λ r. ⌜ r ≡ (not (eqb id rootId) && ltb id maxCells && allFailed «set» (set-at cpus cpu (failCpu (cpuIn cpus cpu))) && not (isFinal state)) ⌝ }
+{
+    !(id == 0) & (id < MAX_CELLS) & cpu_table::all_failed(set, cpu, cpus) & !comms::is_final(state)
+}
+
+// What only a look through whole tables says of an event, as a number, so that the tables are not
+// copied for it: of a Create the code that refuses it, or 0; of a fault 1 where its cell fails; of any
+// other event 0. `p` is the event's CPU, `set` are the CPUs of its cell, and `state` is that cell's.
+pub fn scan(
     system: SystemConfig,
     pool_used: u32,
     live_ids: u16,
@@ -386,38 +406,39 @@ pub fn decide(
     cells: [Cell; MAX_CELLS],
     comms: [CommRegion; MAX_CELLS],
     cpus: [Cpu; MAX_CPUS],
-    waiting: Waiting,
+    p: Cpu,
+    set: u64,
+    state: u32,
     e: Event,
     record: &[u8],
-) -> Decision
-    ensures { λ r. ⌜ Decided
-        (record {
-          power = power;
-          system = system;
-          «pool_used» = «pool_used»;
-          «live_ids» = «live_ids»;
-          «root_cpus» = «root_cpus»;
-          cells = cells;
-          comms = comms;
-          cpus = cpus;
-          waiting = waiting;
-        })
-        e (now («record» .entry)) r ⌝ }
+) -> i32
+    ensures { λ r. ⌜ Scanned cells comms cpus (Scans system «pool_used» «live_ids» «root_cpus» cells comms cpus p «set» state e) e (now («record» .entry)) r ⌝ }
 {
-    let admission = unobeyed::admit(power, system.cpus, comms, cpus, waiting, e);
-    match admission {
-        Admission::Refused(answer) => leave(answer, waiting),
-        Admission::Admitted => obey(
-            system,
-            pool_used,
-            live_ids,
-            root_cpus,
-            cells,
-            comms,
-            cpus,
-            waiting,
-            e,
-            record,
-        ),
+    match e {
+        Event::Call(cpu, code, _, _) => {
+            if code == CELL_CREATE {
+                return create_rules::refusal(
+                    system,
+                    pool_used,
+                    live_ids,
+                    root_cpus,
+                    cells,
+                    comms,
+                    cpu,
+                    record,
+                );
+            }
+            0
+        }
+        Event::Fault(cpu) => {
+            if cell_fails(set, p.cell, state, cpus, cpu_table::cpu_index(cpu)) {
+                return 1;
+            }
+            0
+        }
+        Event::Store(_, _, _) => 0,
+        Event::Exit(_, _) => 0,
+        Event::Poll => 0,
+        Event::Malformed => 0,
     }
 }

@@ -1,12 +1,12 @@
 -- The effects by their parts are the rules' effects: each part is the rule's by its case, and a number that is no cell's changes nothing in the
 -- tables, since nothing stands past their end. Assumes nothing.
-use mathlib.Core.Path.{_≡_, refl, sym, ap, subst, _∙_}
+use mathlib.Core.Path.{_≡_, refl, sym, ap, _∙_}
 use mathlib.Core.Bool.{Bool, true, false}
 use mathlib.Core.List.{List, _∷_}
 use Prim.Native.Nat.{ℕ, suc, _+_, _-_, _%_, _^_, _≤_, _<_}
 use native.Mathlib.Omega.{arith}
 use native.Mathlib.Numerals.{add-one}
-use borrow.Author.Tests.{ltb-false, lt-ltb, le-ltb}
+use borrow.Author.Tests.{ltb-false}
 use lib.Dec.{ltb}
 use lib.ListN.{length, set, getD, List·getD-eq-default}
 use lib.Seq.{set-out, set-getD}
@@ -21,133 +21,144 @@ use Rattle.machine_state.specs.declared.CallKind.the-variants.{Disable, Create,
 use Rattle.machine_state.specs.declared.Machine.{Machine}
 use Rattle.machine_state.specs.Machine.{cellIn, pastCell, pastComm, maxCells}
 use Rattle.rules.specs.State.{live, cellAt, commAt, withPool, withIds, withRootCpus, withCell, withComm, withCpus}
-use Rattle.rules.specs.Effects.{poolCost, cpusChanged, cellCreated, inPhase, cellStarted, cellLoadable, cellDestroyed, allDestroyed, disabled, effect}
+use Rattle.rules.specs.Effects.{poolCost, newComm, cpusChanged, cellCreated, inPhase, cellStarted, cellLoadable, cellDestroyed, allDestroyed, disabled, effect}
 use Rattle.cpu_table.specs.CpuTable.{changeOf}
+use Rattle.comms.specs.Comms.{cellIndex}
 use Rattle.asking.specs.declared.Effect.{Effect}
 use Rattle.asking.specs.declared.Effect.the-variants.{NoEffect, Comes}
 use Rattle.asking.specs.Moves.{effectOf}
+use Rattle.effects.specs.declared.Figures.{Figures}
 use Rattle.effects.specs.declared.Target.{Target}
+use Rattle.effects.specs.declared.CellChange.{CellChange}
+use Rattle.effects.specs.declared.CellChange.the-variants as CellChange
 use Rattle.effects.specs.declared.Numbers.{Numbers}
-use Rattle.effects.specs.Parts.{isDisable, within, Finds, numbersAfter, cellAfter, wordsAfter, stored, cpusAfter}
+use Rattle.effects.specs.Parts.{isDisable, within, figuresOf, targetOf, numbersAfter, kindChange, cellChange, changedCell, newWords, wordsAfter, partsStored, cpusAfter}
 
-abbrev chosen : Bool → ℕ → ℕ
-chosen b id = elim b [ true ↦ id | false ↦ 0 ]
+-- ---- a cell of the tables, or a number that is no cell's
 
 -- what is stored at a cell's place is stored at the cell
 at-place : {A : Type 0} (xs : List A) (d : A) (f : A → A) (id : ℕ) → length xs ≡ maxCells
-    → set xs (within id id 0) (within id (f (getD xs (within id id 0) d)) (getD xs (within id id 0) d)) ≡ set xs id (f (getD xs id d))
-unfolding within
+    → set xs (cellIndex id) (within id (f (getD xs (cellIndex id) d)) (getD xs (cellIndex id) d)) ≡ set xs id (f (getD xs id d))
+unfolding within cellIndex
 at-place {A} xs d f id size = go (ltb id maxCells) refl
   where
     past : ltb id maxCells ≡ false → length xs ≤ id
     past e = let h = ltb-false id maxCells e in omega arith
 
     go : (b : Bool) → ltb id maxCells ≡ b
-        → set xs (chosen b id) (elim b as (λ x. A) [ true ↦ f (getD xs (chosen b id) d) | false ↦ getD xs (chosen b id) d ]) ≡ set xs id (f (getD xs id d))
+        → set xs (elim b as (λ x. ℕ) [ true ↦ id | false ↦ 0 ])
+        (elim b as (λ x. A) [
+          | true ↦ f (getD xs (elim b as (λ x. ℕ) [ true ↦ id | false ↦ 0 ]) d)
+          | false ↦ getD xs (elim b as (λ x. ℕ) [ true ↦ id | false ↦ 0 ]) d
+        ])
+        ≡ set xs id (f (getD xs id d))
     go true e = refl
     go false e = set-getD xs 0 d ∙ sym (set-out xs id (f (getD xs id d)) (past e))
 
+-- what a cell holds is what the cell at its place holds, and past the table's end nothing
+target-is : (cells : List Cell) (id : ℕ) → length cells ≡ maxCells
+    → targetOf id (cellIn cells (cellIndex id) .cpus) (cellIn cells (cellIndex id) .«region_count»)
+    ≡ record { cpus = cellIn cells id .cpus; «region_count» = cellIn cells id .«region_count» }
+unfolding targetOf within cellIndex
+target-is cells id size = go (ltb id maxCells) refl
+  where
+    past : ltb id maxCells ≡ false → length cells ≤ id
+    past e = let h = ltb-false id maxCells e in omega arith
+
+    go : (b : Bool) → ltb id maxCells ≡ b
+        → _≡_ {A = Target}
+        (elim b as (λ x. Target) [
+          | true ↦ record {
+            cpus = cellIn cells (elim b as (λ x. ℕ) [ true ↦ id | false ↦ 0 ]) .cpus;
+            «region_count» = cellIn cells (elim b as (λ x. ℕ) [ true ↦ id | false ↦ 0 ]) .«region_count»;
+          }
+          | false ↦ record { cpus = 0; «region_count» = 0 }
+        ])
+        (record { cpus = cellIn cells id .cpus; «region_count» = cellIn cells id .«region_count» })
+    go true e = refl
+    go false e = rw (List·getD-eq-default cells pastCell (past e))
+
+-- a change at a cell's place
+change-within : (id : ℕ) (change : CellChange) (new : CellConfig) (c : Cell)
+    → changedCell (within id change CellChange.Keep) new c ≡ within id (changedCell change new c) c
+unfolding within changedCell
+change-within id change new c = go (ltb id maxCells)
+  where
+    go : (b : Bool) → changedCell (elim b as (λ x. CellChange) [ true ↦ change | false ↦ CellChange.Keep ]) new c
+        ≡ elim b as (λ x. Cell) [ true ↦ changedCell change new c | false ↦ c ]
+    go true = refl
+    go false = refl
+
+-- ---- the parts of an effect
+
 module _ (kind : CallKind) (id : ℕ) (new : CellConfig) (m : Machine) where
   -- the numbers after an effect, at a machine
-  abbrev pub numbersAt : Numbers
+  abbrev numbersAt : Numbers
   numbersAt =
-      numbersAfter kind id (cellAt m id .cpus) (cellAt m id .«region_count») (new .cpus) (new .«region_count») (m .«pool_used») (m .«live_ids») (m .«root_cpus»)
+      numbersAfter kind id (record { cpus = cellAt m id .cpus; «region_count» = cellAt m id .«region_count» }) (figuresOf new) (m .«pool_used») (m .«live_ids») (m .«root_cpus»)
 
   abbrev atCell : Machine
-  atCell = stored numbersAt id (cellAfter kind new (cellAt m id)) (wordsAfter kind new (commAt m id)) (cpusAfter numbersAt (m .cpus)) m
+  atCell =
+      partsStored numbersAt id (changedCell (kindChange kind) new (cellAt m id)) (wordsAfter kind (figuresOf new) (commAt m id)) (cpusAfter numbersAt (m .cpus)) m
 
 -- each part is the rule's, by the kind of the call
 by-kind : (kind : CallKind) (id : ℕ) (new : CellConfig) (m : Machine) → isDisable kind ≡ false → atCell kind id new m ≡ effect kind id new m
-unfolding isDisable stored numbersAfter cellAfter wordsAfter changeOf effect cellCreated cellStarted cellLoadable cellDestroyed inPhase cpusChanged withPool withIds withRootCpus withCell withComm withCpus
+unfolding isDisable partsStored numbersAfter kindChange changedCell wordsAfter newWords figuresOf newComm changeOf effect cellCreated cellStarted cellLoadable cellDestroyed inPhase cpusChanged withPool withIds withRootCpus withCell withComm withCpus
 by-kind Disable id new m e = absurd (fails {b = true} e tt)
 by-kind Create id new m e = refl
 by-kind Start id new m e = refl
 by-kind SetLoadable id new m e = refl
 by-kind Destroy id new m e = refl
 
-module _ (kind : CallKind) (id : ℕ) (new : CellConfig) (m : Machine) (t : Target) (finds : Finds (m .cells) (m .comms) id t) where
-  abbrev pub numbersThere : Numbers
-  numbersThere = numbersAfter kind id (t .cpus) (t .«region_count») (new .cpus) (new .«region_count») (m .«pool_used») (m .«live_ids») (m .«root_cpus»)
+module _ (kind : CallKind) (id place : ℕ) (new : CellConfig) (m : Machine) where
+  -- what the code has of the numbers, the cell and the words, at the cell's place
+  abbrev pub numbersThere : Figures → Numbers
+  numbersThere f =
+      numbersAfter kind id (targetOf id (cellAt m place .cpus) (cellAt m place .«region_count»)) f (m .«pool_used») (m .«live_ids») (m .«root_cpus»)
 
-  numbers-are : numbersThere ≡ numbersAt kind id new m
-  numbers-are = rw (finds .cpus, finds .regions)
-
-  -- what is stored at the target's place
   abbrev pub cellThere : Cell
-  cellThere = within id (cellAfter kind new (cellAt m (t .place))) (cellAt m (t .place))
+  cellThere = changedCell (cellChange kind id) new (cellAt m place)
 
-  abbrev pub wordsThere : CommRegion
-  wordsThere = within id (wordsAfter kind new (commAt m (t .place))) (commAt m (t .place))
+  abbrev pub wordsThere : Figures → CommRegion
+  wordsThere f = within id (wordsAfter kind f (commAt m place)) (commAt m place)
 
-  cells-are : set (m .cells) (t .place) cellThere ≡ set (m .cells) id (cellAfter kind new (cellAt m id))
-  cells-are = rw (finds .place) (at-place (m .cells) pastCell (cellAfter kind new) id (finds .cellTable))
+  module _ (here : place ≡ cellIndex id) (cellTable : length (m .cells) ≡ maxCells) (commTable : length (m .comms) ≡ maxCells) where
+    numbers-are : numbersThere (figuresOf new) ≡ numbersAt kind id new m
+    numbers-are =
+        ap (λ (t : Target). numbersAfter kind id t (figuresOf new) (m .«pool_used») (m .«live_ids») (m .«root_cpus»))
+        (ap (λ (k : ℕ). targetOf id (cellAt m k .cpus) (cellAt m k .«region_count»)) here ∙ target-is (m .cells) id cellTable)
 
-  words-are : set (m .comms) (t .place) wordsThere ≡ set (m .comms) id (wordsAfter kind new (commAt m id))
-  words-are = rw (finds .place) (at-place (m .comms) pastComm (wordsAfter kind new) id (finds .commTable))
+    cells-are : set (m .cells) place cellThere ≡ set (m .cells) id (changedCell (kindChange kind) new (cellAt m id))
+    unfolding cellChange
+    cells-are =
+        ap (set (m .cells) place) (change-within id (kindChange kind) new (cellAt m place))
+        ∙ ap (λ (k : ℕ). set (m .cells) k (within id (changedCell (kindChange kind) new (cellAt m k)) (cellAt m k))) here
+        ∙ at-place (m .cells) pastCell (changedCell (kindChange kind) new) id cellTable
 
-  -- the parts, stored at the target's place, make the rule's machine
-  pub stored-is-effect : (n : Numbers) (c : Cell) (w : CommRegion) (cpus : List Cpu) → isDisable kind ≡ false → n ≡ numbersThere → c ≡ cellThere → w ≡ wordsThere
-      → cpus ≡ cpusAfter n (m .cpus) → stored n (t .place) c w cpus m ≡ effect kind id new m
-  unfolding stored
-  stored-is-effect n c w cpus e isNumbers isCell isWords isCpus =
-      (λ i. record {
-        power = m .power;
-        system = m .system;
-        «pool_used» = (isNumbers ∙ numbers-are) i .«pool_used»;
-        «live_ids» = (isNumbers ∙ numbers-are) i .«live_ids»;
-        «root_cpus» = (isNumbers ∙ numbers-are) i .«root_cpus»;
-        cells = (ap (set (m .cells) (t .place)) isCell ∙ cells-are) i;
-        comms = (ap (set (m .comms) (t .place)) isWords ∙ words-are) i;
-        cpus = (isCpus ∙ ap (λ (x : Numbers). cpusAfter x (m .cpus)) (isNumbers ∙ numbers-are)) i;
-        waiting = m .waiting;
-      })
-      ∙ by-kind kind id new m e
+    words-are : set (m .comms) place (wordsThere (figuresOf new)) ≡ set (m .comms) id (wordsAfter kind (figuresOf new) (commAt m id))
+    words-are =
+        ap (λ (k : ℕ). set (m .comms) k (within id (wordsAfter kind (figuresOf new) (commAt m k)) (commAt m k))) here
+        ∙ at-place (m .comms) pastComm (wordsAfter kind (figuresOf new)) id commTable
 
--- ---- the target of an effect
-
-module _ (cells : List Cell) (comms : List CommRegion) (id : ℕ) (cellTable : length cells ≡ maxCells) (commTable : length comms ≡ maxCells) where
-  pub found-here : id < maxCells → Finds cells comms id (record { place = id; cpus = cellIn cells id .cpus; «region_count» = cellIn cells id .«region_count» })
-  unfolding within
-  found-here h = record {
-    place = rw (lt-ltb id maxCells h, within);
-    inside = h;
-    cpus = refl;
-    regions = refl;
-    cellTable = cellTable;
-    commTable = commTable;
-  }
-
-  pub found-nowhere : maxCells ≤ id → Finds cells comms id (record { place = 0; cpus = 0; «region_count» = 0 })
-  unfolding within
-  found-nowhere h =
-      let past = List·getD-eq-default cells pastCell (subst (λ (n : ℕ). n ≤ id) (sym cellTable) h) in
-      record {
-        place = rw (le-ltb id maxCells h, within);
-        inside = omega arith;
-        cpus = rw past;
-        regions = rw past;
-        cellTable = cellTable;
-        commTable = commTable;
-      }
-
--- ---- the record, which only Create's effect looks at
-
-module _ (kind : CallKind) (id : ℕ) (new other : CellConfig) (m : Machine) where
-  pub no-record-disable : kind ≡ Disable → effect kind id new m ≡ effect kind id other m
-  unfolding effect
-  no-record-disable e = rw (e, effect)
-
-  pub no-record-start : kind ≡ Start → effect kind id new m ≡ effect kind id other m
-  unfolding effect
-  no-record-start e = rw (e, effect)
-
-  pub no-record-loadable : kind ≡ SetLoadable → effect kind id new m ≡ effect kind id other m
-  unfolding effect
-  no-record-loadable e = rw (e, effect)
-
-  pub no-record-destroy : kind ≡ Destroy → effect kind id new m ≡ effect kind id other m
-  unfolding effect
-  no-record-destroy e = rw (e, effect)
+    -- the parts, stored at the cell's place, make the rule's machine
+    pub stored-is-effect : (f : Figures) (n : Numbers) (c : Cell) (w : CommRegion) (cpus : List Cpu) → isDisable kind ≡ false → f ≡ figuresOf new
+        → n ≡ numbersThere f → c ≡ cellThere → w ≡ wordsThere f → cpus ≡ cpusAfter n (m .cpus)
+        → partsStored n place c w cpus m ≡ effect kind id new m
+    unfolding partsStored
+    stored-is-effect f n c w cpus e isFigures isNumbers isCell isWords isCpus =
+        let numbers = isNumbers ∙ ap numbersThere isFigures ∙ numbers-are in
+        (λ i. record {
+          power = m .power;
+          system = m .system;
+          «pool_used» = numbers i .«pool_used»;
+          «live_ids» = numbers i .«live_ids»;
+          «root_cpus» = numbers i .«root_cpus»;
+          cells = (ap (set (m .cells) place) isCell ∙ cells-are) i;
+          comms = (ap (set (m .comms) place) (isWords ∙ ap wordsThere isFigures) ∙ words-are) i;
+          cpus = (isCpus ∙ ap (λ (x : Numbers). cpusAfter x (m .cpus)) numbers) i;
+          waiting = m .waiting;
+        })
+        ∙ by-kind kind id new m e
 
 -- ---- the pool
 

@@ -4,14 +4,12 @@ ghost use mathlib.Core.Path.{_≡_};
 ghost use mathlib.Core.Bool.{false};
 ghost use Prim.Native.Nat.{ℕ, _+_, _-_, _%_, _^_};
 ghost use Rattle.cell_record.specs.CellRecord.{cellOf};
-ghost use Rattle.machine_state.specs.declared.Machine.{Machine};
 ghost use mathlib.Core.List.{List, _∷_};
 ghost use Rattle.rules.specs.State.{withPower};
-ghost use Rattle.rules.specs.Effects.{poolCost, newCell, newComm, withPhase, clearWords, withState, effect as effect-of, allDestroyed, disabled};
+ghost use Rattle.rules.specs.Effects.{poolCost, newCell, withPhase, clearWords, withState, effect as effect-of, allDestroyed, disabled};
 ghost use Rattle.asking.specs.Moves.{effectOf};
-ghost use Rattle.effects.specs.Parts.{isDisable, Finds, numbersAfter, within, cellAfter, wordsAfter};
+ghost use Rattle.effects.specs.Parts.{isDisable, figuresOf, targetOf, numbersAfter, within, kindChange, cellChange, changedCell, newWords, wordsAfter};
 use asking::Effect;
-use cell_record::CellConfig;
 use cpu_table::CpuChange;
 use machine_state::CallKind;
 use machine_state::Cell;
@@ -21,14 +19,19 @@ use machine_state::Machine;
 use machine_state::Phase;
 use machine_state::Power;
 use machine_state::SHUT_DOWN;
-use region_table::MAX_REGIONS;
 
-// A cell that an effect is about: its place in the tables, and the CPUs and regions that it holds.
-// A number that is no cell's has place 0, and holds nothing.
-pub struct Target {
-    pub place: usize,
+// What a record says that Create's effect needs beside the cell itself.
+pub struct Figures {
     pub cpus: u64,
     pub region_count: usize,
+    pub mapped: bool,
+    pub passive: bool,
+}
+
+// What a cell that an effect is about holds; a number that is no cell's holds nothing.
+struct Target {
+    cpus: u64,
+    region_count: usize,
 }
 
 // What an effect makes of the machine's numbers, and what it does to a set of CPUs.
@@ -38,6 +41,15 @@ pub struct Numbers {
     pub root_cpus: u64,
     pub cpus: u64,
     pub how: CpuChange,
+}
+
+// What an effect does to its cell's place in the table: nothing, the record's new cell, another
+// phase, or no cell.
+pub enum CellChange {
+    Keep,
+    New,
+    Phase(Phase),
+    Empty,
 }
 
 // Whether the effect is Disable's, which is about every cell.
@@ -53,46 +65,30 @@ pub fn is_disable(kind: CallKind) -> bool
     }
 }
 
-// The cell `id` in the tables.
-pub fn find(cells: [Cell; MAX_CELLS], comms: [CommRegion; MAX_CELLS], id: usize) -> Target
-    ensures { λ r. ⌜ Finds cells comms id r ⌝ }
+// The figures of a record.
+pub fn figures_of(record: &[u8]) -> Figures
+    ensures { λ r. ⌜ r ≡ figuresOf (cellOf (now («record» .entry))) ⌝ }
+{
+    let new = cell_record::cell_of(record);
+    let regions = new.regions;
+    Figures {
+        cpus: new.cpus,
+        region_count: new.region_count,
+        mapped: region_table::has_comm(regions, new.region_count),
+        passive: new.passive,
+    }
+}
+
+// What cell `id` holds, at whose place a cell with these CPUs and regions stands.
+fn target_of(id: usize, cpus: u64, region_count: usize) -> Target
+    ensures { λ r. ⌜ r ≡ targetOf id cpus «region_count» ⌝ }
 {
     if id < MAX_CELLS {
-        return Target {
-            place: id,
-            cpus: cells[id].cpus,
-            region_count: cells[id].region_count,
-        };
+        return Target { cpus, region_count };
     }
     Target {
-        place: 0,
         cpus: 0,
         region_count: 0,
-    }
-}
-
-// A record's values where nothing was read.
-fn no_config() -> CellConfig {
-    let regions = [region_table::no_region(); MAX_REGIONS];
-    CellConfig {
-        name: [0; 32],
-        passive: false,
-        cpus: 0,
-        region_count: 0,
-        regions,
-    }
-}
-
-// The values of the record that an effect needs: only Create's does.
-pub fn config_for(kind: CallKind, record: &[u8]) -> CellConfig
-    ensures { λ r. ⌜ ((id : ℕ) (m : Machine) → effect-of kind id r m ≡ effect-of kind id (cellOf (now («record» .entry))) m) ⌝ }
-{
-    match kind {
-        CallKind::Disable => no_config(),
-        CallKind::Create => cell_record::cell_of(record),
-        CallKind::Start => no_config(),
-        CallKind::SetLoadable => no_config(),
-        CallKind::Destroy => no_config(),
     }
 }
 
@@ -118,20 +114,21 @@ fn pool_given_back(pool_used: u32, regions: usize) -> u32
     (used - 2 - regions) as u32
 }
 
-// The numbers after an effect on cell `id`, which is `target`; of Create, `cpus` and `regions` are
-// the record's.
+// The numbers after an effect on cell `id`, at whose place a cell with these CPUs and regions
+// stands; of Create, `new` are the record's figures.
 pub fn numbers_after(
     kind: CallKind,
     id: usize,
-    target: Target,
     cpus: u64,
-    regions: usize,
+    region_count: usize,
+    new: Figures,
     pool_used: u32,
     live_ids: u16,
     root_cpus: u64,
 ) -> Numbers
-    ensures { λ r. ⌜ r ≡ numbersAfter kind id (target .cpus) (target .«region_count») cpus regions «pool_used» «live_ids» «root_cpus» ⌝ }
+    ensures { λ r. ⌜ r ≡ numbersAfter kind id (targetOf id cpus «region_count») new «pool_used» «live_ids» «root_cpus» ⌝ }
 {
+    let target = target_of(id, cpus, region_count);
     match kind {
         CallKind::Disable => Numbers {
             pool_used,
@@ -141,10 +138,10 @@ pub fn numbers_after(
             how: CpuChange::Keep,
         },
         CallKind::Create => Numbers {
-            pool_used: pool_grown(pool_used, regions),
+            pool_used: pool_grown(pool_used, new.region_count),
             live_ids: comms::add_id(live_ids, id),
-            root_cpus: cpu_set::without(root_cpus, cpus),
-            cpus,
+            root_cpus: cpu_set::without(root_cpus, new.cpus),
+            cpus: new.cpus,
             how: CpuChange::Give(id, true),
         },
         CallKind::Start => Numbers {
@@ -171,10 +168,33 @@ pub fn numbers_after(
     }
 }
 
-// A created cell.
-fn new_cell(new: CellConfig) -> Cell
-    ensures { λ r. ⌜ r ≡ newCell new ⌝ }
+// What an effect does to the place of cell `id`.
+fn kind_change(kind: CallKind) -> CellChange
+    ensures { λ r. ⌜ r ≡ kindChange kind ⌝ }
 {
+    match kind {
+        CallKind::Disable => CellChange::Keep,
+        CallKind::Create => CellChange::New,
+        CallKind::Start => CellChange::Phase(Phase::Started),
+        CallKind::SetLoadable => CellChange::Phase(Phase::Loading),
+        CallKind::Destroy => CellChange::Empty,
+    }
+}
+
+pub fn cell_change(kind: CallKind, id: usize) -> CellChange
+    ensures { λ r. ⌜ r ≡ cellChange kind id ⌝ }
+{
+    if id < MAX_CELLS {
+        return kind_change(kind);
+    }
+    CellChange::Keep
+}
+
+// A created cell.
+pub fn new_cell(record: &[u8]) -> Cell
+    ensures { λ r. ⌜ r ≡ newCell (cellOf (now («record» .entry))) ⌝ }
+{
+    let new = cell_record::cell_of(record);
     let name = new.name;
     let regions = new.regions;
     Cell {
@@ -187,7 +207,7 @@ fn new_cell(new: CellConfig) -> Cell
 }
 
 // A cell in another phase.
-fn with_phase(phase: Phase, c: Cell) -> Cell
+pub fn with_phase(phase: Phase, c: Cell) -> Cell
     ensures { λ r. ⌜ r ≡ withPhase phase c ⌝ }
 {
     let name = c.name;
@@ -201,37 +221,24 @@ fn with_phase(phase: Phase, c: Cell) -> Cell
     }
 }
 
-// A cell after an effect on it.
-fn changed_cell(kind: CallKind, new: CellConfig, c: Cell) -> Cell
-    ensures { λ r. ⌜ r ≡ cellAfter kind new c ⌝ }
+// What stands at a cell's place after a change, where `c` stood.
+fn cell_after(change: CellChange, record: &[u8], c: Cell) -> Cell
+    ensures { λ r. ⌜ r ≡ changedCell change (cellOf (now («record» .entry))) c ⌝ }
 {
-    match kind {
-        CallKind::Disable => c,
-        CallKind::Create => new_cell(new),
-        CallKind::Start => with_phase(Phase::Started, c),
-        CallKind::SetLoadable => with_phase(Phase::Loading, c),
-        CallKind::Destroy => machine_state::no_cell(),
-    }
-}
-
-// What is stored at the place of cell `id`, where `c` stands.
-pub fn cell_after(kind: CallKind, id: usize, new: CellConfig, c: Cell) -> Cell
-    ensures { λ r. ⌜ r ≡ within id (cellAfter kind new c) c ⌝ }
-{
-    if id < MAX_CELLS {
-        changed_cell(kind, new, c)
-    } else {
-        c
+    match change {
+        CellChange::Keep => c,
+        CellChange::New => new_cell(record),
+        CellChange::Phase(phase) => with_phase(phase, c),
+        CellChange::Empty => machine_state::no_cell(),
     }
 }
 
 // The communication words of a created cell.
-fn new_comm(new: CellConfig) -> CommRegion
-    ensures { λ r. ⌜ r ≡ newComm new ⌝ }
+fn new_comm(new: Figures) -> CommRegion
+    ensures { λ r. ⌜ r ≡ newWords new ⌝ }
 {
-    let regions = new.regions;
     CommRegion {
-        mapped: region_table::has_comm(regions, new.region_count),
+        mapped: new.mapped,
         passive: new.passive,
         msg_to_cell: 0,
         reply_from_cell: 0,
@@ -251,7 +258,7 @@ fn clear_words(w: CommRegion) -> CommRegion
 }
 
 // The words of a cell that is set loadable.
-fn shut_down(w: CommRegion) -> CommRegion
+fn loadable_words(w: CommRegion) -> CommRegion
     ensures { λ r. ⌜ r ≡ withState 2 w ⌝ }
 {
     let mut next = w;
@@ -260,20 +267,20 @@ fn shut_down(w: CommRegion) -> CommRegion
 }
 
 // The words of a cell after an effect on it.
-fn changed_words(kind: CallKind, new: CellConfig, w: CommRegion) -> CommRegion
+fn changed_words(kind: CallKind, new: Figures, w: CommRegion) -> CommRegion
     ensures { λ r. ⌜ r ≡ wordsAfter kind new w ⌝ }
 {
     match kind {
         CallKind::Disable => w,
         CallKind::Create => new_comm(new),
         CallKind::Start => clear_words(w),
-        CallKind::SetLoadable => shut_down(w),
+        CallKind::SetLoadable => loadable_words(w),
         CallKind::Destroy => machine_state::no_comm(),
     }
 }
 
 // What is stored at the place of cell `id`'s words, where `w` stands.
-pub fn words_after(kind: CallKind, id: usize, new: CellConfig, w: CommRegion) -> CommRegion
+pub fn words_after(kind: CallKind, id: usize, new: Figures, w: CommRegion) -> CommRegion
     ensures { λ r. ⌜ r ≡ within id (wordsAfter kind new w) w ⌝ }
 {
     if id < MAX_CELLS {
@@ -284,20 +291,18 @@ pub fn words_after(kind: CallKind, id: usize, new: CellConfig, w: CommRegion) ->
 }
 
 // The machine after the effect of a call on one cell.
-fn on_cell(m: Machine, kind: CallKind, id: usize, new: CellConfig) -> Machine
-    ensures { λ r. ⌜ (isDisable kind ≡ false → r ≡ effect-of kind id new m) ⌝ }
+fn on_cell(m: Machine, kind: CallKind, id: usize, record: &[u8]) -> Machine
+    ensures { λ r. ⌜ (isDisable kind ≡ false → r ≡ effect-of kind id (cellOf (now («record» .entry))) m) ⌝ }
 {
     let mut next = m;
-    let cells = m.cells;
-    let comms = m.comms;
-    let target = find(cells, comms, id);
-    let i = target.place;
+    let i = comms::cell_index(id);
+    let new = figures_of(record);
     let numbers = numbers_after(
         kind,
         id,
-        target,
-        new.cpus,
-        new.region_count,
+        m.cells[i].cpus,
+        m.cells[i].region_count,
+        new,
         m.pool_used,
         m.live_ids,
         m.root_cpus,
@@ -307,7 +312,7 @@ fn on_cell(m: Machine, kind: CallKind, id: usize, new: CellConfig) -> Machine
     next.pool_used = numbers.pool_used;
     next.live_ids = numbers.live_ids;
     next.root_cpus = numbers.root_cpus;
-    next.cells[i] = cell_after(kind, id, new, m.cells[i]);
+    next.cells[i] = cell_after(cell_change(kind, id), record, m.cells[i]);
     next.comms[i] = words_after(kind, id, new, m.comms[i]);
     next.cpus = cpu_table::change_cpus(numbers.cpus, how, cpus);
     next
@@ -318,7 +323,7 @@ fn destroy_live(m: Machine, id: usize) -> Machine
     ensures { λ r. ⌜ ((ids : List ℕ) → allDestroyed (id ∷ ids) m ≡ allDestroyed ids r) ⌝ }
 {
     if comms::is_live(m.live_ids, id as u64) {
-        return on_cell(m, CallKind::Destroy, id, no_config());
+        return on_cell(m, CallKind::Destroy, id, b"");
     }
     m
 }
@@ -368,7 +373,7 @@ pub fn carry_out(m: Machine, effect: Effect, record: &[u8]) -> Machine
             if is_disable(kind) {
                 return disable(m);
             }
-            on_cell(m, kind, id, config_for(kind, record))
+            on_cell(m, kind, id, record)
         }
     }
 }

@@ -39,8 +39,14 @@ pub fn step(m: Machine, e: Event, record: &[u8]) -> Stepped
     let comms = m.comms;
     let cpus = m.cpus;
     let waiting = m.waiting;
-    let d = decide::decide(
-        power,
+    let k = unobeyed::cpu_for(e);
+    let p = m.cpus[k];
+    let asked = unobeyed::asked_for(e);
+    let q = m.cpus[asked];
+    let own = comms::cell_index(p.cell);
+    let at = unobeyed::words_for(e, p.cell, waiting);
+    let w = m.comms[at];
+    let scan = decide::scan(
         system,
         m.pool_used,
         m.live_ids,
@@ -48,9 +54,28 @@ pub fn step(m: Machine, e: Event, record: &[u8]) -> Stepped
         cells,
         comms,
         cpus,
-        waiting,
+        p,
+        m.cells[own].cpus,
+        w.cell_state,
         e,
         record,
+    );
+    let pool = system.pool;
+    let remap = system.remap;
+    let d = decide::decide(
+        power,
+        system.cpus,
+        pool,
+        remap,
+        m.pool_used,
+        m.live_ids,
+        comms,
+        waiting,
+        p,
+        w,
+        q,
+        scan,
+        e,
     );
     let cpu = d.cpu;
     let touch = d.touch;

@@ -7,23 +7,26 @@ use native.Mathlib.Omega.{arith}
 use lib.IntN.{ℤ}
 use lib.ListN.{length, set, getD}
 use lib.Seq.{getD-set-same, getD-set-other}
-use borrow.Author.Tests.{not-false, eqb-true, eqb-false}
-use lib.Dec.{leb, leb→le, eqb}
+use borrow.Author.Tests.{not-false, ltb-true}
+use lib.Dec.{leb, leb→le, ltb, eqb}
 use Rattle.base.specs.Rules.{Refusal, firstRule, _⇒_}
 use Rattle.base.proofs.Rules.{rule-holds, rule-passed, no-rule}
-use Rattle.base.proofs.Tests.{holds, and-left, and-right}
+use Rattle.base.proofs.Tests.{holds, fails, and-left, and-right}
 use Rattle.cpu_set.specs.CpuSet.{member}
 use Rattle.cpu_set.proofs.Laws.{member-lt}
 use Rattle.machine_state.specs.declared.Cpu.{Cpu}
 use Rattle.machine_state.specs.declared.CommRegion.{CommRegion}
 use Rattle.machine_state.specs.declared.Machine.{Machine}
-use Rattle.machine_state.specs.Machine.{cpuIn, commIn, pastCpu, maxCpus}
-use Rattle.rules.specs.State.{rootId, bootCpus, cpuAt, stateAt, hasId, live, withCpus}
+use Rattle.machine_state.specs.Machine.{cpuIn, pastCpu, maxCells, maxCpus}
+use Rattle.rules.specs.State.{rootId, bootCpus, commAt, cpuAt, stateAt, hasId, live, withCpus}
 use Rattle.rules.specs.Queries.{low31}
 use Rattle.rules.specs.Effects.{counted, callCounter}
 use Rattle.cpu_table.specs.CpuTable.{changeOf}
 use Rattle.cpu_table.specs.declared.CpuChange.the-variants.{Count}
-use Rattle.queries.specs.Asked.{askedOf}
+use Rattle.cpu_table.specs.CpuTable.{cpuIndex}
+use Rattle.cpu_table.proofs.Laws.{cpu-inside}
+use Rattle.comms.specs.Comms.{cellIndex}
+use Rattle.comms.proofs.Laws.{cell-inside}
 use Rattle.machine_state.specs.declared.Answer.{Answer}
 use Rattle.machine_state.specs.declared.Answer.the-variants.{Code}
 
@@ -41,16 +44,21 @@ pub between : (a n b : ℕ) → (leb a n && leb n b) ≡ true → (a ≤ n) × (
 between a n b e =
     (leb→le a n (and-left (leb a n) (leb n b) (holds e)), leb→le n b (and-right (leb a n) (leb n b) (holds e)))
 
-pub not-both : (n : ℕ) → n < maxCpus → maxCpus ≤ n → ⊥
-not-both n h b = omega arith
-
 -- cell `id` of the machine is as the code found it in the tables
 module _ (m : Machine) (id : ℕ) where
   pub live-row : (ids : ℕ) (found b : Bool) → m .«live_ids» ≡ ids → found ≡ hasId ids id → not found ≡ b → not (live m id) ≡ b
   live-row ids found b e f t = ap (λ (n : ℕ). not (hasId n id)) e ∙ ap not (sym f) ∙ t
 
-  pub state-is : (comms : List CommRegion) (c : CommRegion) → m .comms ≡ comms → c ≡ commIn comms id → stateAt m id ≡ c .«cell_state»
-  state-is comms c e f = ap (λ (l : List CommRegion). commIn l id .«cell_state») e ∙ ap (λ (w : CommRegion). w .«cell_state») (sym f)
+  pub state-is : (w : CommRegion) → live m id ≡ true → commAt m (cellIndex id) ≡ w → stateAt m id ≡ w .«cell_state»
+  unfolding hasId
+  state-is w e f = ap (λ (c : CommRegion). c .«cell_state») (ap (commAt m) (sym (cell-inside id (inside (ltb id maxCells) refl))) ∙ f)
+    where
+      inside : (b : Bool) → ltb id maxCells ≡ b → id < maxCells
+      inside true q = ltb-true id maxCells q
+      inside false q = absurd (fails {b = true} (sym (rw (q, hasId) at e)) tt)
+
+  pub live-is : (ids : ℕ) (found : Bool) → m .«live_ids» ≡ ids → found ≡ hasId ids id → not found ≡ false → live m id ≡ true
+  live-is ids found e f t = ap (λ (n : ℕ). hasId n id) e ∙ sym f ∙ not-false found t
 
 -- the row of a CPU of another cell, where the two CPUs are given
 pub foreign-row : (p q caller asked : Cpu) → p ≡ caller → q ≡ asked
@@ -75,24 +83,17 @@ module _ (cpu boot : ℕ) (found : Bool) (e : found ≡ member cpu boot) where
   listed n m b = ap (member cpu) b ∙ sym e ∙ not-false found n
 
 -- the CPUs of the machine in which the caller is counted
-module _ (m : Machine) (caller : ℕ) (cpus : List Cpu) (e : m .cpus ≡ cpus) (size : length cpus ≡ maxCpus) (h : caller < maxCpus) where
+module _ (m : Machine) (caller : ℕ) (p : Cpu) (size : length (m .cpus) ≡ maxCpus) (h : caller < maxCpus) (e : cpuAt m caller ≡ p) where
   abbrev own : Cpu
-  own = changeOf (Count callCounter) (cpuIn cpus caller)
+  own = changeOf (Count callCounter) p
 
-  counted-at : (j : ℕ) → cpuAt (counted callCounter caller m) j ≡ cpuIn (set cpus caller own) j
+  counted-at : (j : ℕ) → cpuAt (counted callCounter caller m) j ≡ cpuIn (set (m .cpus) caller own) j
   unfolding counted withCpus changeOf
-  counted-at j = rw e refl
+  counted-at j = ap (λ (x : Cpu). cpuIn (set (m .cpus) caller (changeOf (Count callCounter) x)) j) e
 
   pub caller-counted : cpuAt (counted callCounter caller m) caller ≡ own
-  caller-counted = counted-at caller ∙ getD-set-same cpus caller own pastCpu (subst (λ (n : ℕ). caller < n) (sym size) h)
+  caller-counted = counted-at caller ∙ getD-set-same (m .cpus) caller own pastCpu (subst (λ (n : ℕ). caller < n) (sym size) h)
 
-  at-asked : (j : ℕ) → cpuAt (counted callCounter caller m) j ≡ askedOf cpus caller own j
-  unfolding askedOf
-  at-asked j = go (eqb j caller) refl
-    where
-      go : (b : Bool) → eqb j caller ≡ b → cpuAt (counted callCounter caller m) j ≡ askedOf cpus caller own j
-      go true q = rw (q, askedOf) (ap (cpuAt (counted callCounter caller m)) (eqb-true j caller q) ∙ caller-counted)
-      go false q = rw (q, askedOf) (counted-at j ∙ getD-set-other cpus caller j own pastCpu (eqb-false j caller q))
-
-  pub asked-counted : (j : ℕ) (p r : Cpu) → p ≡ own → r ≡ askedOf cpus caller p j → cpuAt (counted callCounter caller m) j ≡ r
-  asked-counted j p r e f = at-asked j ∙ ap (λ (x : Cpu). askedOf cpus caller x j) (sym e) ∙ sym f
+  pub asked-counted : (j : ℕ) (q : Cpu) → j < maxCpus → (j ≡ caller → ⊥) → cpuAt m (cpuIndex j) ≡ q → cpuAt (counted callCounter caller m) j ≡ q
+  asked-counted j q b n f =
+      counted-at j ∙ getD-set-other (m .cpus) caller j own pastCpu n ∙ ap (cpuAt m) (sym (cpu-inside j b)) ∙ f

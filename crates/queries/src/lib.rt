@@ -3,14 +3,15 @@
 ghost use mathlib.Core.Path.{_≡_};
 ghost use mathlib.Core.Bool.{true};
 ghost use Prim.Native.Nat.{ℕ, _-_, _≤_, _<_};
-ghost use lib.ListN.{getD};
+ghost use lib.ListN.{getD, length};
 ghost use Rattle.cpu_set.specs.CpuSet.{member};
 ghost use Rattle.machine_state.specs.declared.Machine.{Machine};
-ghost use Rattle.machine_state.specs.Machine.{cpuIn, maxCpus};
-ghost use Rattle.rules.specs.State.{bootCpus, cpuAt};
+ghost use Rattle.machine_state.specs.Machine.{maxCpus};
+ghost use Rattle.rules.specs.State.{bootCpus, commAt, cpuAt};
 ghost use Rattle.rules.specs.Queries.{low31 as low31-of, getInfo, getState, cpuGetInfo};
-ghost use Rattle.rules.specs.Effects.{counted, callCounter, countExit};
-ghost use Rattle.queries.specs.Asked.{askedOf};
+ghost use Rattle.rules.specs.Effects.{counted, callCounter};
+ghost use Rattle.cpu_table.specs.CpuTable.{cpuIndex};
+ghost use Rattle.comms.specs.Comms.{cellIndex};
 use base::EINVAL;
 use base::EPERM;
 use cpu_table::CALL_COUNTER;
@@ -19,8 +20,6 @@ use machine_state::Answer;
 use machine_state::CommRegion;
 use machine_state::Cpu;
 use machine_state::FAILED;
-use machine_state::MAX_CELLS;
-use machine_state::MAX_CPUS;
 use machine_state::RUNNING;
 use machine_state::RUNNING_LOCKED;
 use machine_state::SHUT_DOWN;
@@ -55,12 +54,11 @@ pub fn get_info(pool: Pool, remap: Pool, pool_used: u32, live_ids: u16, kind: u6
     Answer::Code(EINVAL)
 }
 
-// Get State of cell `id`.
-pub fn get_state(live_ids: u16, comms: [CommRegion; MAX_CELLS], id: u64) -> Answer
-    ensures { λ r. ⌜ ((m : Machine) → m .«live_ids» ≡ «live_ids» → m .comms ≡ comms → r ≡ Answer.Code (getState id m)) ⌝ }
+// Get State of cell `id`, at whose place the words `w` stand.
+pub fn get_state(live_ids: u16, w: CommRegion, id: u64) -> Answer
+    ensures { λ r. ⌜ ((m : Machine) → m .«live_ids» ≡ «live_ids» → commAt m (cellIndex id) ≡ w → r ≡ Answer.Code (getState id m)) ⌝ }
 {
-    let c = comms::words_at(comms, id as usize);
-    let state = c.cell_state;
+    let state = w.cell_state;
     if id == 0 {
         return Answer::Code(0);
     }
@@ -108,33 +106,17 @@ fn cpu_figure(caller: Cpu, asked: Cpu, kind: u64) -> Answer
     Answer::Code(EINVAL)
 }
 
-// The CPU asked about, which may be the caller's own, `p`, already counted.
-fn asked_cpu(cpus: [Cpu; MAX_CPUS], caller: usize, p: Cpu, asked: usize) -> Cpu
-    requires { ⌜ asked < maxCpus ⌝ }
-    ensures { λ r. ⌜ r ≡ askedOf cpus caller p asked ⌝ }
-{
-    if asked == caller {
-        return p;
-    }
-    cpus[asked]
-}
-
-// CPU Get Info of CPU `asked`, for a caller whose call is counted but not yet in the table.
-pub fn cpu_get_info(
-    boot_cpus: u64,
-    cpus: [Cpu; MAX_CPUS],
-    caller: usize,
-    asked: u64,
-    kind: u64,
-) -> Answer
-    ensures { λ r. ⌜ ((m : Machine) → caller < maxCpus → bootCpus m ≡ «boot_cpus» → m .cpus ≡ cpus → r ≡ Answer.Code (cpuGetInfo caller asked kind (counted callCounter caller m))) ⌝ }
+// CPU Get Info of CPU `asked`, which is `q` if the table has it, for the CPU `caller`, which is `p`
+// before its call is counted.
+pub fn cpu_get_info(boot_cpus: u64, p: Cpu, q: Cpu, caller: u64, asked: u64, kind: u64) -> Answer
+    ensures { λ r. ⌜ ((m : Machine) → caller < maxCpus → length (m .cpus) ≡ maxCpus → bootCpus m ≡ «boot_cpus» → cpuAt m caller ≡ p → cpuAt m (cpuIndex asked) ≡ q → r ≡ Answer.Code (cpuGetInfo caller asked kind (counted callCounter caller m))) ⌝ }
 {
     if !cpu_set::contains(boot_cpus, asked) {
         return Answer::Code(EINVAL);
     }
-    if caller >= MAX_CPUS {
-        return Answer::Code(EINVAL);
+    let own = cpu_table::change_cpu(p, CpuChange::Count(CALL_COUNTER));
+    if asked == caller {
+        return cpu_figure(own, own, kind);
     }
-    let own = cpu_table::change_cpu(cpus[caller], CpuChange::Count(CALL_COUNTER));
-    cpu_figure(own, asked_cpu(cpus, caller, own, asked as usize), kind)
+    cpu_figure(own, q, kind)
 }

@@ -13,6 +13,7 @@ ghost use Rattle.texts.specs.Texts.{putLine, putCount};
 ghost use Rattle.replay_log.specs.Feed.{feed, textAtEnd, lineLength, goingOf};
 ghost use Rattle.replay_log.specs.Run.{Puts, Runs};
 use asking::Effect;
+use effects::CellChange;
 use machine_state::Answer;
 use machine_state::Machine;
 use texts::MAX_TEXT;
@@ -130,8 +131,14 @@ pub fn run(kept: Replay, log: &[u8], out: &mut [u8]) -> Ran
             let cells = m.cells;
             let comms = m.comms;
             let cpus = m.cpus;
-            let d = decide::decide(
-                power,
+            let k = unobeyed::cpu_for(event);
+            let p = m.cpus[k];
+            let asked = unobeyed::asked_for(event);
+            let q = m.cpus[asked];
+            let own = comms::cell_index(p.cell);
+            let place = unobeyed::words_for(event, p.cell, waiting);
+            let w = m.comms[place];
+            let scan = decide::scan(
                 system,
                 m.pool_used,
                 m.live_ids,
@@ -139,9 +146,28 @@ pub fn run(kept: Replay, log: &[u8], out: &mut [u8]) -> Ran
                 cells,
                 comms,
                 cpus,
-                waiting,
+                p,
+                m.cells[own].cpus,
+                w.cell_state,
                 event,
                 &record[0..n],
+            );
+            let pool = system.pool;
+            let remap = system.remap;
+            let d = decide::decide(
+                power,
+                system.cpus,
+                pool,
+                remap,
+                m.pool_used,
+                m.live_ids,
+                comms,
+                waiting,
+                p,
+                w,
+                q,
+                scan,
+                event,
             );
             let cpu = d.cpu;
             let touch = d.touch;
@@ -157,11 +183,48 @@ pub fn run(kept: Replay, log: &[u8], out: &mut [u8]) -> Ran
                     m.comms[cell] = comms::change_words(m.comms[cell], words);
                     waiting = moves.waiting;
                 }
-                Effect::Comes(_, _) => {
-                    let held = manager::with_waiting(m, waiting);
-                    m = effects::carry_out(held, effect, &record[0..n]);
-                    m.comms[cell] = comms::change_words(m.comms[cell], words);
-                    waiting = moves.waiting;
+                Effect::Comes(kind, id) => {
+                    if effects::is_disable(kind) {
+                        let held = manager::with_waiting(m, waiting);
+                        m = effects::disable(held);
+                        m.comms[cell] = comms::change_words(m.comms[cell], words);
+                        waiting = moves.waiting;
+                    } else {
+                        let i = comms::cell_index(id);
+                        let new = effects::figures_of(&record[0..n]);
+                        let numbers = effects::numbers_after(
+                            kind,
+                            id,
+                            m.cells[i].cpus,
+                            m.cells[i].region_count,
+                            new,
+                            m.pool_used,
+                            m.live_ids,
+                            m.root_cpus,
+                        );
+                        let how = numbers.how;
+                        let before = m.cpus;
+                        m.pool_used = numbers.pool_used;
+                        m.live_ids = numbers.live_ids;
+                        m.root_cpus = numbers.root_cpus;
+                        m.cpus = cpu_table::change_cpus(numbers.cpus, how, before);
+                        m.comms[i] = effects::words_after(kind, id, new, m.comms[i]);
+                        m.comms[cell] = comms::change_words(m.comms[cell], words);
+                        waiting = moves.waiting;
+                        let change = effects::cell_change(kind, id);
+                        match change {
+                            CellChange::Keep => {}
+                            CellChange::New => {
+                                m.cells[i] = effects::new_cell(&record[0..n]);
+                            }
+                            CellChange::Phase(phase) => {
+                                m.cells[i] = effects::with_phase(phase, m.cells[i]);
+                            }
+                            CellChange::Empty => {
+                                m.cells[i] = machine_state::no_cell();
+                            }
+                        }
+                    }
                 }
             }
         }

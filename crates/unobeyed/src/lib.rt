@@ -2,13 +2,13 @@
 ghost use mathlib.Core.Path.{_≡_};
 ghost use Rattle.rules.specs.State.{waits as waits-of};
 ghost use Rattle.rules.specs.Unobeyed.{isOn};
-ghost use Rattle.unobeyed.specs.Admission.{AdmitsOwn, AdmitsOn, Admits, deniedFor};
+ghost use Rattle.comms.specs.Comms.{Index, cellIndex};
+ghost use Rattle.unobeyed.specs.Admission.{cpuFor, askedFor, waitedCell, cellFor, AdmitsOwn, AdmitsOn, Admits, deniedFor};
 use machine_state::Answer;
 use machine_state::CommRegion;
 use machine_state::Cpu;
 use machine_state::Event;
 use machine_state::MAX_CELLS;
-use machine_state::MAX_CPUS;
 use machine_state::Power;
 use machine_state::Waiting;
 
@@ -39,6 +39,65 @@ fn waits(waiting: Waiting) -> bool
     }
 }
 
+// The place of the event's CPU.
+pub fn cpu_for(e: Event) -> usize
+    ensures { λ r. ⌜ Index (cpuFor e) 64 r ⌝ }
+{
+    match e {
+        Event::Call(cpu, _, _, _) => cpu_table::cpu_index(cpu),
+        Event::Store(cpu, _, _) => cpu_table::cpu_index(cpu),
+        Event::Fault(cpu) => cpu_table::cpu_index(cpu),
+        Event::Exit(cpu, _) => cpu_table::cpu_index(cpu),
+        Event::Poll => 0,
+        Event::Malformed => 0,
+    }
+}
+
+// The place of the CPU that CPU Get Info asks about.
+pub fn asked_for(e: Event) -> usize
+    ensures { λ r. ⌜ Index (askedFor e) 64 r ⌝ }
+{
+    match e {
+        Event::Call(_, _, a1, _) => cpu_table::cpu_index(a1),
+        Event::Store(_, _, _) => 0,
+        Event::Fault(_) => 0,
+        Event::Exit(_, _) => 0,
+        Event::Poll => 0,
+        Event::Malformed => 0,
+    }
+}
+
+// The cell that the waiting call waits for.
+fn waited_cell(waiting: Waiting) -> usize
+    ensures { λ r. ⌜ r ≡ waitedCell waiting ⌝ }
+{
+    match waiting {
+        Waiting::NoCall => 0,
+        Waiting::Pending(_, stage) => stage.cell,
+    }
+}
+
+// The cell whose words matter to an event on a CPU of cell `cell`.
+fn cell_for(e: Event, cell: usize, waiting: Waiting) -> usize
+    ensures { λ r. ⌜ r ≡ cellFor e cell waiting ⌝ }
+{
+    match e {
+        Event::Call(_, _, a1, _) => a1 as usize,
+        Event::Store(_, _, _) => cell,
+        Event::Fault(_) => cell,
+        Event::Exit(_, _) => cell,
+        Event::Poll => waited_cell(waiting),
+        Event::Malformed => cell,
+    }
+}
+
+// The place of their words.
+pub fn words_for(e: Event, cell: usize, waiting: Waiting) -> usize
+    ensures { λ r. ⌜ Index (cellIndex (cellFor e cell waiting)) 16 r ⌝ }
+{
+    comms::cell_index(cell_for(e, cell, waiting))
+}
+
 // The rows that look at the event's CPU, which is `p`.
 fn admit_own(p: Cpu, waiting: Waiting) -> Admission
     ensures { λ r. ⌜ AdmitsOwn p waiting r ⌝ }
@@ -52,16 +111,17 @@ fn admit_own(p: Cpu, waiting: Waiting) -> Admission
     Admission::Admitted
 }
 
-// The rows of every event on a CPU; `bad` is what else makes the event bad.
+// The rows of every event on CPU `cpu`, which is `p` if the table has it; `bad` is what else makes the
+// event bad.
 fn admit_on(
     power: Power,
     boot_cpus: u64,
-    cpus: [Cpu; MAX_CPUS],
+    p: Cpu,
     waiting: Waiting,
     cpu: u64,
     bad: bool,
 ) -> Admission
-    ensures { λ r. ⌜ AdmitsOn power «boot_cpus» cpus waiting cpu bad r ⌝ }
+    ensures { λ r. ⌜ AdmitsOn power «boot_cpus» p waiting cpu bad r ⌝ }
 {
     if !is_on(power) {
         return Admission::Refused(Answer::Off);
@@ -72,38 +132,38 @@ fn admit_on(
     if bad {
         return Admission::Refused(Answer::Bad);
     }
-    let k = cpu as usize;
-    admit_own(cpus[k], waiting)
+    admit_own(p, waiting)
 }
 
-// Whether a store to a word by a CPU of cell `cell` is denied.
-fn store_denied(comms: [CommRegion; MAX_CELLS], cell: usize, word: u64) -> bool
-    ensures { λ r. ⌜ r ≡ deniedFor comms cell word ⌝ }
+// Whether a store to a word by a CPU of cell `cell`, whose words are `w`, is denied.
+fn store_denied(w: CommRegion, cell: usize, word: u64) -> bool
+    ensures { λ r. ⌜ r ≡ deniedFor w cell word ⌝ }
 {
-    let c = comms::words_at(comms, cell);
-    (cell == 0) | !c.mapped | (2 < word) | (word == 2) & comms::is_final(c.cell_state)
+    (cell == 0)
+        | !(cell < MAX_CELLS)
+        | !w.mapped
+        | (2 < word)
+        | (word == 2) & comms::is_final(w.cell_state)
 }
 
 // A store.
 fn admit_store(
     power: Power,
     boot_cpus: u64,
-    comms: [CommRegion; MAX_CELLS],
-    cpus: [Cpu; MAX_CPUS],
+    p: Cpu,
+    w: CommRegion,
     waiting: Waiting,
     cpu: u64,
     word: u64,
     value: u32,
 ) -> Admission
-    ensures { λ r. ⌜ Admits power «boot_cpus» comms cpus waiting (Event.Store cpu word value) r ⌝ }
+    ensures { λ r. ⌜ Admits power «boot_cpus» p w waiting (Event.Store cpu word value) r ⌝ }
 {
-    let admission = admit_on(power, boot_cpus, cpus, waiting, cpu, false);
+    let admission = admit_on(power, boot_cpus, p, waiting, cpu, false);
     match admission {
         Admission::Refused(_) => admission,
         Admission::Admitted => {
-            let k = cpu as usize;
-            let p = cpus[k];
-            if store_denied(comms, p.cell, word) {
+            if store_denied(w, p.cell, word) {
                 return Admission::Refused(Answer::Denied);
             }
             Admission::Admitted
@@ -112,14 +172,8 @@ fn admit_store(
 }
 
 // A poll.
-fn admit_poll(
-    power: Power,
-    boot_cpus: u64,
-    comms: [CommRegion; MAX_CELLS],
-    cpus: [Cpu; MAX_CPUS],
-    waiting: Waiting,
-) -> Admission
-    ensures { λ r. ⌜ Admits power «boot_cpus» comms cpus waiting Event.Poll r ⌝ }
+fn admit_poll(power: Power, boot_cpus: u64, p: Cpu, w: CommRegion, waiting: Waiting) -> Admission
+    ensures { λ r. ⌜ Admits power «boot_cpus» p w waiting Event.Poll r ⌝ }
 {
     if !is_on(power) {
         return Admission::Refused(Answer::Off);
@@ -134,11 +188,11 @@ fn admit_poll(
 fn admit_malformed(
     power: Power,
     boot_cpus: u64,
-    comms: [CommRegion; MAX_CELLS],
-    cpus: [Cpu; MAX_CPUS],
+    p: Cpu,
+    w: CommRegion,
     waiting: Waiting,
 ) -> Admission
-    ensures { λ r. ⌜ Admits power «boot_cpus» comms cpus waiting Event.Malformed r ⌝ }
+    ensures { λ r. ⌜ Admits power «boot_cpus» p w waiting Event.Malformed r ⌝ }
 {
     if !is_on(power) {
         return Admission::Refused(Answer::Off);
@@ -146,25 +200,25 @@ fn admit_malformed(
     Admission::Refused(Answer::Bad)
 }
 
-// Any event.
+// Any event, on the CPU `p`; `w` are the words that `words_for` names.
 pub fn admit(
     power: Power,
     boot_cpus: u64,
-    comms: [CommRegion; MAX_CELLS],
-    cpus: [Cpu; MAX_CPUS],
+    p: Cpu,
+    w: CommRegion,
     waiting: Waiting,
     e: Event,
 ) -> Admission
-    ensures { λ r. ⌜ Admits power «boot_cpus» comms cpus waiting e r ⌝ }
+    ensures { λ r. ⌜ Admits power «boot_cpus» p w waiting e r ⌝ }
 {
     match e {
-        Event::Call(cpu, _, _, _) => admit_on(power, boot_cpus, cpus, waiting, cpu, false),
+        Event::Call(cpu, _, _, _) => admit_on(power, boot_cpus, p, waiting, cpu, false),
         Event::Store(cpu, word, value) => {
-            admit_store(power, boot_cpus, comms, cpus, waiting, cpu, word, value)
+            admit_store(power, boot_cpus, p, w, waiting, cpu, word, value)
         }
-        Event::Fault(cpu) => admit_on(power, boot_cpus, cpus, waiting, cpu, false),
-        Event::Exit(cpu, kind) => admit_on(power, boot_cpus, cpus, waiting, cpu, 3 < kind),
-        Event::Poll => admit_poll(power, boot_cpus, comms, cpus, waiting),
-        Event::Malformed => admit_malformed(power, boot_cpus, comms, cpus, waiting),
+        Event::Fault(cpu) => admit_on(power, boot_cpus, p, waiting, cpu, false),
+        Event::Exit(cpu, kind) => admit_on(power, boot_cpus, p, waiting, cpu, 3 < kind),
+        Event::Poll => admit_poll(power, boot_cpus, p, w, waiting),
+        Event::Malformed => admit_malformed(power, boot_cpus, p, w, waiting),
     }
 }

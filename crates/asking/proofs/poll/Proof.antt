@@ -10,14 +10,13 @@ use Rattle.asking.proofs.poll.Tie as tie
 returns : tie.Need-returns
 unfolding poll
 returns c =
-    let a = c .before .before .before .args in
     moves-as (c .stay .ensures) (λ m h. h .waits) (λ m new h. ap (λ (w : Waiting). poll w new m) (sym (c .before .enum-told .given .1)))
 
 returns-2 : tie.Need-returns-2
 unfolding poll
 returns-2 c =
     let told = c .before .before .waiting .given .1 in
-    moves-as (c .poll-cell .ensures) (λ m h. record { parts = h .parts; waits = h .waits ∙ told })
+    moves-as (c .poll-cell .ensures) (λ m h. record { parts = h .parts; waits = h .waits ∙ told; words = rw told at (h .words) })
     (λ m new h. ap (λ (w : Waiting). poll w new m) (sym told))
 
 pub poll-spec : {M : Type 1} → statement M

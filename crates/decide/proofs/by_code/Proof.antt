@@ -1,5 +1,7 @@
 -- `decide::by_code` meets its contract: by its code. Assumes nothing.
 use mathlib.Core.Path.{_∙_}
+use mir.Syntax.{w32}
+use mir.Facts.{toZ-ofZ}
 use Rattle.rules.specs.Effects.{counted, callCounter}
 use Rattle.decide.proofs.Calls.{calls-by, counted-parts, with-words, with-waiting, code-disable, code-create, code-start, code-loadable, code-destroy, at-code}
 use borrow.Author.Needs.{needs}
@@ -7,43 +9,46 @@ use Rattle.decide.proofs.by_code.Statement.{statement}
 use Rattle.decide.proofs.by_code.Tie as tie
 
 returns : tie.Need-returns
-returns c =
-    let a = c .before .before .before .args in
+returns c bytes =
+    let a = c .before .before .args in
     calls-by (c .ask .ensures) (λ m h. with-words _ (counted-parts (a .cpu) m (h .parts)))
     (λ m h. code-disable (a .cpu) (a .a1) (a .a2) _ _ ∙ at-code (a .cpu) (a .a1) (a .a2) _ _ (c .before .if1 .taken))
 
 returns-2 : tie.Need-returns-2
-returns-2 c =
-    let a = c .before .before .before .before .args in
+returns-2 c bytes =
+    let entry = c .before .before .before in
+    let a = entry .args in
+    let made = c .create-call .ensures (a .cpu) bytes in
     record {
-      moves = λ m h. c .create-call .ensures .moves (counted callCounter (a .cpu) m) (counted-parts (a .cpu) m (h .parts))
+      moves = λ m h. made .moves (counted callCounter (a .cpu) m)
+          (with-waiting _ (counted-parts (a .cpu) m (h .parts)), toZ-ofZ {w = w32} {z = a .scan} (entry .fits .scan) ∙ h .scan (c .before .if2 .taken))
           ∙ code-create (a .cpu) (a .a1) (a .a2) _ _ ∙ at-code (a .cpu) (a .a1) (a .a2) _ _ (c .before .if2 .taken);
-      place = c .create-call .ensures .place;
+      place = made .place;
     }
 
 returns-3 : tie.Need-returns-3
-returns-3 c =
-    let a = c .before .before .before .before .before .args in
+returns-3 c bytes =
+    let a = c .before .before .before .before .args in
     calls-by (c .target-call .ensures) (λ m h. with-waiting _ (counted-parts (a .cpu) m (h .parts)))
     (λ m h. code-start (a .cpu) (a .a1) (a .a2) _ _ ∙ at-code (a .cpu) (a .a1) (a .a2) _ _ (c .before .if3 .taken))
 
 returns-4 : tie.Need-returns-4
-returns-4 c =
-    let a = c .before .before .before .before .before .before .args in
+returns-4 c bytes =
+    let a = c .before .before .before .before .before .args in
     calls-by (c .target-call2 .ensures) (λ m h. with-waiting _ (counted-parts (a .cpu) m (h .parts)))
     (λ m h. code-loadable (a .cpu) (a .a1) (a .a2) _ _ ∙ at-code (a .cpu) (a .a1) (a .a2) _ _ (c .before .if4 .taken))
 
 returns-5 : tie.Need-returns-5
-returns-5 c =
-    let a = c .before .before .before .before .before .before .before .args in
+returns-5 c bytes =
+    let a = c .before .before .before .before .before .before .args in
     calls-by (c .target-call3 .ensures) (λ m h. with-waiting _ (counted-parts (a .cpu) m (h .parts)))
     (λ m h. code-destroy (a .cpu) (a .a1) (a .a2) _ _ ∙ at-code (a .cpu) (a .a1) (a .a2) _ _ (c .before .if5 .taken))
 
 returns-6 : tie.Need-returns-6
-returns-6 c =
-    let a = c .before .before .before .before .before .before .before .before .args in
+returns-6 c bytes =
+    let a = c .before .before .before .before .before .before .before .args in
     calls-by (c .stay .ensures) (λ m h. counted-parts (a .cpu) m (h .parts) .waits)
-    (λ m h. c .before .query .ensures .answers m _ (h .parts .system) (h .parts .pool) (h .parts .ids) (h .parts .words) (h .cpus))
+    (λ m h. c .before .query .ensures _ _ bytes _ m h)
 
 pub by-code-spec : {M : Type 1} → statement M
 by-code-spec = tie.close (tie.spec (λ c κs. search needs) returns (λ c κs. search needs) returns-2 (λ c κs. search needs) returns-3 (λ c κs. search needs) returns-4 (λ c κs. search needs) returns-5 (λ c κs. search needs) (λ c κs. search needs) returns-6)

@@ -10,41 +10,42 @@ use Rattle.machine_state.specs.Machine.{cpuIn}
 use Rattle.rules.specs.State.{cpuAt}
 use Rattle.rules.specs.Effects.{counted, callCounter}
 use Rattle.decide.proofs.Calls.{calls-by, counted-parts, counted-cell, unknown-code, not-root's, by-its-code}
+use mir.Syntax.{w32}
+use mir.Facts.{toZ-ofZ}
+use Rattle.decide.proofs.Events.{call-passed}
 use borrow.Author.Needs.{needs}
 use Rattle.decide.proofs.call.Statement.{statement}
 use Rattle.decide.proofs.call.Tie as tie
 
 -- the caller's cell, where its call is counted
-own : (m : Machine) (ps : List Cpu) (cpu : ℕ) → m .cpus ≡ ps → length ps ≡ 64 → cpu < 64 → cpuAt (counted callCounter cpu m) cpu .cell ≡ cpuIn ps cpu .cell
-own m ps cpu e size h =
-    counted-cell cpu m (rw (ap length e ∙ size) h) ∙ ap (λ (l : List Cpu). cpuIn l cpu .cell) e
+own : (m : Machine) (p : Cpu) (cpu : ℕ) → cpuAt m cpu ≡ p → length (m .cpus) ≡ 64 → cpu < 64 → cpuAt (counted callCounter cpu m) cpu .cell ≡ p .cell
+own m p cpu e size h = counted-cell cpu m (rw size h) ∙ ap (λ (x : Cpu). x .cell) e
 
 returns : tie.Need-returns
-returns c =
-    let a = c .before .before .before .args in
+returns c bytes =
+    let a = c .before .before .args in
     calls-by (c .stay .ensures) (λ m h. counted-parts (a .cpu) m (h .parts) .waits)
     (λ m h. unknown-code (a .cpu) (a .code) (a .a1) (a .a2) _ _ (c .before .if1 .taken))
 
 returns-2 : tie.Need-returns-2
-returns-2 c =
-    let a = c .before .before .before .before .before .before in
+returns-2 c bytes =
+    let a = c .before .before .before .before in
     let b = a .args in
-    let size = a .good .1 .1 .1 .1 .1 .1 .0 .1 .0 .1 in
     let known : b .code ≤ 7 = omega arith in
     calls-by (c .stay2 .ensures) (λ m h. counted-parts (b .cpu) m (h .parts) .waits)
-    (λ m h. not-root's (b .cpu) (b .code) (b .a1) (b .a2) _ _ known _ (own m (b .t7) (b .cpu) (h .cpus) size (a .pre)) (c .before .if2 .taken))
+    (λ m h. not-root's (b .cpu) (b .code) (b .a1) (b .a2) _ _ known _ (own m (b .p) (b .cpu) (h .caller) (h .size) (a .pre)) (c .before .if2 .taken))
 
 returns-3 : tie.Need-returns-3
-returns-3 c =
-    let a = c .before .before .before .before .before .before in
+returns-3 c bytes =
+    let a = c .before .before .before .before in
     let b = a .args in
-    let size = a .good .1 .1 .1 .1 .1 .1 .0 .1 .0 .1 in
     let known : b .code ≤ 7 = omega arith in
+    let by = c .by-code .ensures bytes in
     record {
-      moves = λ m h. c .by-code .ensures .moves m h
-          ∙ by-its-code (b .cpu) (b .code) (b .a1) (b .a2) _ _ known _ (own m (b .t7) (b .cpu) (h .cpus) size (a .pre)) (c .before .if2 .left);
-      place = c .by-code .ensures .place;
+      moves = λ m h. by .moves m (call-passed (toZ-ofZ {w = w32} {z = b .scan} (a .fits .scan)) h)
+          ∙ by-its-code (b .cpu) (b .code) (b .a1) (b .a2) _ _ known _ (own m (b .p) (b .cpu) (h .caller) (h .size) (a .pre)) (c .before .if2 .left);
+      place = by .place;
     }
 
 pub call-spec : {M : Type 1} → statement M
-call-spec = tie.close (tie.spec (λ c κs. search needs) returns (λ c. search needs) (λ c. search needs) (λ c κs. search needs) returns-2 (λ c κs. search needs) returns-3)
+call-spec = tie.close (tie.spec (λ c κs. search needs) returns (λ c κs. search needs) returns-2 (λ c κs. search needs) returns-3)

@@ -12,35 +12,29 @@ use Rattle.decide.proofs.query.Tie as tie
 
 returns : tie.Need-returns
 unfolding counted withCpus
-returns c =
-    let a = c .before .before .before .before .args in
-    record {
-      answers = λ m bytes s p l t k. let next = counted callCounter (a .cpu) m in
-          ap (λ (r : Answer). answered r next) (c .get-info .ensures next (ap (λ (x : SystemConfig). x .pool) s) (ap (λ (x : SystemConfig). x .remap) s) p l)
-          ∙ code-info (a .cpu) (a .a1) (a .a2) bytes next ∙ at-code (a .cpu) (a .a1) (a .a2) bytes next (c .before .if1 .taken);
-    }
+returns c table waiting bytes scan m h =
+    let a = c .before .before .args in
+    let next = counted callCounter (a .cpu) m in
+    ap (λ (r : Answer). answered r next) (c .get-info .ensures next (h .parts .pool) (h .parts .remap) (h .parts .used) (h .parts .ids))
+    ∙ code-info (a .cpu) (a .a1) (a .a2) bytes next ∙ at-code (a .cpu) (a .a1) (a .a2) bytes next (c .before .if1 .taken)
 
 returns-2 : tie.Need-returns-2
 unfolding counted withCpus
-returns-2 c =
-    let a = c .before .before .before .before .before .args in
-    record {
-      answers = λ m bytes s p l t k. let next = counted callCounter (a .cpu) m in
-          ap (λ (r : Answer). answered r next) (c .get-state .ensures next l t)
-          ∙ code-state (a .cpu) (a .a1) (a .a2) bytes next ∙ at-code (a .cpu) (a .a1) (a .a2) bytes next (c .before .if2 .taken);
-    }
+returns-2 c table waiting bytes scan m h =
+    let a = c .before .before .before .args in
+    let next = counted callCounter (a .cpu) m in
+    ap (λ (r : Answer). answered r next) (c .get-state .ensures next (h .parts .ids) (h .words))
+    ∙ code-state (a .cpu) (a .a1) (a .a2) bytes next ∙ at-code (a .cpu) (a .a1) (a .a2) bytes next (c .before .if2 .taken)
 
 returns-3 : tie.Need-returns-3
 unfolding counted withCpus
-returns-3 c =
-    let a = c .before .before .before .before .before in
+returns-3 c table waiting bytes scan m h =
+    let a = c .before .before .before in
     let b = a .args in
     let code : b .code ≡ 7 = omega arith in
-    record {
-      answers = λ m bytes s p l t k. let next = counted callCounter (b .cpu) m in
-          ap (λ (r : Answer). answered r next) (c .cpu-get-info .ensures m (a .pre .0) (ap (λ (x : SystemConfig). x .cpus) s) k)
-          ∙ code-cpu (b .cpu) (b .a1) (b .a2) bytes next ∙ at-code (b .cpu) (b .a1) (b .a2) bytes next code;
-    }
+    let next = counted callCounter (b .cpu) m in
+    ap (λ (r : Answer). answered r next) (c .cpu-get-info .ensures m (a .pre .0) (h .size) (h .parts .boot) (h .caller) (h .asked))
+    ∙ code-cpu (b .cpu) (b .a1) (b .a2) bytes next ∙ at-code (b .cpu) (b .a1) (b .a2) bytes next code
 
 pub query-spec : {M : Type 1} → statement M
 query-spec = tie.close (tie.spec (λ c κs. search needs) returns (λ c κs. search needs) returns-2 (λ c κs. search needs) returns-3)

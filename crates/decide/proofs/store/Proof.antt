@@ -6,12 +6,12 @@ use Rattle.decide.proofs.store.Tie as tie
 
 returns : tie.Need-returns
 returns c =
-    let a = c .before .args in
+    let a = c .args in
     λ new. record {
-      settles = λ m e. stores (a .waiting) new m (e .1) (a .cpu) (a .word) (a .value) (a .t1) (e .0);
-      cpu = c .before .pre .0;
-      cell = c .before .pre .1;
+      settles = λ m e. stores (a .waiting) new m (e .1) (a .cpu) (a .word) (a .value) (a .p) (e .0);
+      cpu = c .pre .0;
+      cell = c .pre .1;
     }
 
 pub store-spec : {M : Type 1} → statement M
-store-spec = tie.close (tie.spec (λ c. search needs) (λ c. search needs) returns)
+store-spec = tie.close (tie.spec returns)

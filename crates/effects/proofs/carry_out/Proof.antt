@@ -16,11 +16,10 @@ returns-2 c = no-effect _ _ _ (c .enum-told .given .1)
 
 returns-3 : tie.Need-returns-3
 returns-3 c =
-    let new = c .before in
-    let test = new .before in
+    let test = c .before in
     let kind = test .before .before .before in
     effect-comes _ _ _ _ _ _ (kind .effect .given .1)
-    (c .on-cell .ensures (sym (test .before .is-disable .ensures) ∙ test .if1 .left) ∙ new .config-for .ensures _ _)
+    (c .on-cell .ensures (sym (test .before .is-disable .ensures) ∙ test .if1 .left))
 
 pub carry-out-spec : {M : Type 1} → statement M
-carry-out-spec = tie.close (tie.spec (λ c. search needs) (λ c. search needs) (λ c κs. search needs) (λ c κs. search needs) returns (λ c κs. search needs) (λ c κs. search needs) returns-2 returns-3)
+carry-out-spec = tie.close (tie.spec (λ c. search needs) (λ c. search needs) (λ c κs. search needs) (λ c κs. search needs) returns (λ c κs. search needs) returns-2 returns-3)

@@ -20,7 +20,7 @@ returns-3 c = c .clear-words .ensures ∙ sym (ap (λ (k : CallKind). wordsAfter
 
 returns-4 : tie.Need-returns-4
 unfolding wordsAfter
-returns-4 c = c .shut-down .ensures ∙ sym (ap (λ (k : CallKind). wordsAfter k (c .before .before .before .args .new) (c .before .before .before .args .w)) (c .before .enum-told4 .given .1))
+returns-4 c = c .loadable-words .ensures ∙ sym (ap (λ (k : CallKind). wordsAfter k (c .before .before .before .args .new) (c .before .before .before .args .w)) (c .before .enum-told4 .given .1))
 
 returns-5 : tie.Need-returns-5
 unfolding wordsAfter

@@ -1,7 +1,9 @@
--- `manager::step` meets its contract: the decision, applied store by store, is the rule's step. Assumes nothing.
-use mathlib.Core.Path.{_∙_}
+-- `manager::step` meets its contract: the decision, from what is read of the machine, applied store by store, is the rule's step. Assumes nothing.
+use mathlib.Core.Path.{refl, _∙_}
+use mir.Syntax.{w32}
+use mir.Facts.{toZ-ofZ}
 use Rattle.rules.specs.State.{withCpus, withComm, answered}
-use Rattle.manager.proofs.Laws.{applied}
+use Rattle.manager.proofs.Laws.{scan-parts, all-parts, applied}
 use borrow.Author.Needs.{needs}
 use Rattle.manager.proofs.step.Statement.{statement}
 use Rattle.manager.proofs.step.Tie as tie
@@ -13,9 +15,24 @@ returns c =
     let effect = words .before .before in
     let touch = effect .before in
     let decided = touch .before .before .before in
-    let m = decided .before .before .before .before .before .before .args .t1 in
+    let scanned = decided .before .before .before in
+    let at = scanned .before .before in
+    let own = at .before in
+    let asked = own .before .before in
+    let cpu = asked .before .before in
+    let entry = cpu .before .before .before .before .before .before in
+    let m = entry .args .t1 in
+    let found = scanned .scan .ensures in
+    let says = found .found m (scan-parts m _ _ _ (cpu .cpu-for .ensures) (at .words-for .ensures) _ (own .cell-index .ensures)) in
+    let back = toZ-ofZ {w = w32} {z = scanned .scan .result} (record { sfits = scanned .scan .ok }) in
     applied (decided .decide .result) _ m _ _ _ _ (touch .change-cpu .ensures) (effect .carry-out .ensures) (words .change-words .ensures) (c .with-waiting .ensures)
-    ∙ decided .decide .ensures .steps
+    ∙ decided .decide .ensures .settles _ m
+    (refl, all-parts m _ _ _ (cpu .cpu-for .ensures) (at .words-for .ensures) _ _ _ _ (asked .asked-for .ensures) (found .words) (found .cpus) back says)
 
 pub step-spec : {M : Type 1} → statement M
-step-spec = tie.close (tie.spec (λ c κs. search needs) (λ c. search needs) (λ c. search needs) (λ c κs. search needs) (λ c. search needs) (λ c. search needs) (λ c κs. search needs) (λ c. search needs) (λ c. search needs) (λ c κs. search needs) (λ c. search needs) (λ c. search needs) (λ c κs. search needs) returns)
+step-spec =
+    tie.close
+    (tie.spec (λ c κs. search needs) (λ c. search needs) (λ c. search needs) (λ c κs. search needs) (λ c. search needs) (λ c. search needs) (λ c κs. search needs)
+    (λ c κs. search needs) (λ c. search needs) (λ c. search needs) (λ c. search needs) (λ c. search needs) (λ c κs. search needs) (λ c κs. search needs)
+    (λ c. search needs) (λ c. search needs) (λ c κs. search needs) (λ c. search needs) (λ c. search needs) (λ c κs. search needs)
+    (λ c. search needs) (λ c. search needs) (λ c κs. search needs) (λ c. search needs) (λ c. search needs) (λ c κs. search needs) returns)

@@ -6,7 +6,7 @@ use lib.Dec.{eqb}
 use borrow.Author.Tests.{eq-eqb, ne-eqb}
 use Rattle.rules.specs.State.{running, runningLocked, shutDown, failed}
 use Rattle.rules.specs.Queries.{getState}
-use Rattle.queries.proofs.Laws.{answers, passes, none-left, live-row, state-is}
+use Rattle.queries.proofs.Laws.{answers, passes, none-left, live-row, live-is, state-is}
 use borrow.Author.Needs.{needs}
 use Rattle.queries.proofs.get_state.Statement.{statement}
 use Rattle.queries.proofs.get_state.Tie as tie
@@ -31,7 +31,7 @@ returns-3 c m l k =
     let alive = c .before in
     let known = alive .before in
     let other = known .before in
-    let state = state-is m _ _ _ k (other .before .words-at .ensures) in
+    let state = state-is m _ _ (live-is m _ _ _ l (known .is-live .ensures) (alive .if2 .left)) k in
     passes _ _ _ _ (ne-eqb _ _ (other .if1 .left))
     (passes _ _ _ _ (live-row m _ _ _ _ l (known .is-live .ensures) (alive .if2 .left))
     (answers _ _ _ _ _ (ap runs state ∙ c .if3 .taken) refl))
@@ -43,7 +43,7 @@ returns-4 c m l k =
     let alive = still .before in
     let known = alive .before in
     let other = known .before in
-    let state = state-is m _ _ _ k (other .before .words-at .ensures) in
+    let state = state-is m _ _ (live-is m _ _ _ l (known .is-live .ensures) (alive .if2 .left)) k in
     passes _ _ _ _ (ne-eqb _ _ (other .if1 .left))
     (passes _ _ _ _ (live-row m _ _ _ _ l (known .is-live .ensures) (alive .if2 .left))
     (passes _ _ _ _ (ap runs state ∙ still .if3 .left)
@@ -57,7 +57,7 @@ returns-5 c m l k =
     let alive = still .before in
     let known = alive .before in
     let other = known .before in
-    let state = state-is m _ _ _ k (other .before .words-at .ensures) in
+    let state = state-is m _ _ (live-is m _ _ _ l (known .is-live .ensures) (alive .if2 .left)) k in
     passes _ _ _ _ (ne-eqb _ _ (other .if1 .left))
     (passes _ _ _ _ (live-row m _ _ _ _ l (known .is-live .ensures) (alive .if2 .left))
     (passes _ _ _ _ (ap runs state ∙ still .if3 .left)
@@ -72,7 +72,7 @@ returns-6 c m l k =
     let alive = still .before in
     let known = alive .before in
     let other = known .before in
-    let state = state-is m _ _ _ k (other .before .words-at .ensures) in
+    let state = state-is m _ _ (live-is m _ _ _ l (known .is-live .ensures) (alive .if2 .left)) k in
     passes _ _ _ _ (ne-eqb _ _ (other .if1 .left))
     (passes _ _ _ _ (live-row m _ _ _ _ l (known .is-live .ensures) (alive .if2 .left))
     (passes _ _ _ _ (ap runs state ∙ still .if3 .left)
@@ -81,4 +81,4 @@ returns-6 c m l k =
     (none-left _ _ refl)))))
 
 pub get-state-spec : {M : Type 1} → statement M
-get-state-spec = tie.close (tie.spec (λ c κs. search needs) returns (λ c κs. search needs) returns-2 returns-3 returns-4 returns-5 returns-6)
+get-state-spec = tie.close (tie.spec returns (λ c κs. search needs) returns-2 returns-3 returns-4 returns-5 returns-6)

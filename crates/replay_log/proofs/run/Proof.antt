@@ -1,44 +1,492 @@
 -- `replay_log::run` meets its contract. The loop's invariant: the log up to `at`, fed to what was kept, gives the machine with the waiting call, the
 -- line and the text that stand in the locals. A turn takes the bytes up to the next line feed, or to the end of the piece; where the line ends,
 -- what is decided on its event is stored in place, which is the rule's step, and its answer is put behind the text. Assumes nothing.
-use mathlib.Core.Path.{_≡_, refl, sym, ap, ap₂, _∙_, subst}
+use mathlib.Core.Path.{_≡_, refl, sym, ap, subst, _∙_}
 use mathlib.Core.Bool.{_&&_}
 use mathlib.Core.List.{List, [], _++_}
 use Prim.Native.Nat.{ℕ, _≤_, _-_, _+_, min}
 use Prim.Native.Nat.{zero-le}
 use native.Mathlib.Omega.{arith}
+use mir.Syntax.{w32}
+use mir.Facts.{toZ-ofZ}
 use lib.Dec.{ltb, leb}
 use lib.ListN.{length, take, drop}
 use Rattle.cell_record.specs.CellRecord.{cellOf}
-use Rattle.machine_state.specs.declared.Event.{Event}
 use Rattle.machine_state.specs.declared.Machine.{Machine}
-use Rattle.rules.specs.State.{withCpu, withCpus, withComm, withWaiting, answered}
-use Rattle.rules.specs.Step.{step}
+use Rattle.rules.specs.State.{cellAt, withCpu, withCpus, withComm, withWaiting, answered}
+use Rattle.rules.specs.Effects.{disabled}
 use Rattle.asking.specs.declared.Effect.{Effect}
 use Rattle.asking.specs.Moves.{effectOf}
-use Rattle.manager.proofs.Laws.{applied}
-use Rattle.texts.specs.Texts.{answerLine}
+use Rattle.effects.specs.Parts.{changedCell, partsStored}
+use Rattle.effects.proofs.Laws.{disable-comes}
+use Rattle.manager.proofs.Laws.{scan-parts, all-parts, applied}
 use Rattle.replay_log.specs.Feed.{feed, goingOf, keptBytes}
-use Rattle.replay_log.proofs.Buffers.{begun-short, less-end, less-turn, next-inside, drop-further, whole-part, may-go, kept-bytes, record-inside, record-size, record-read}
-use Rattle.replay_log.proofs.Laws.{going, goes-open, goes-on-ended}
+use Rattle.replay_log.proofs.Buffers.{begun-short, less-end, less-turn, may-go, kept-bytes}
+use Rattle.replay_log.proofs.Laws.{going, goes-open}
+use Rattle.replay_log.proofs.Turns.{Keeps, ended-turn, stored-effect, partsKept, kept-cell, as-changed, record-fits}
 use borrow.Author.Needs.{needs, length-unmapped}
 use Rattle.replay_log.proofs.run.Statement.{statement}
 use Rattle.replay_log.proofs.run.Tie as tie
 
 abbrev Inv-loop : tie.InvT-loop
 Inv-loop log out₀ m₀ waiting₀ line₀ len₀ record₀ at₀ written₀ out m waiting line len «record» at written =
-    (at ≤ length log) × (written ≤ length out) × (length out ≡ length out₀) × (len ≤ keptBytes) × (length line ≡ keptBytes)
-    × (length «record» ≡ 700)
-    × (feed (take at log) (going (withWaiting waiting₀ m₀) (take len₀ line₀) []) ≡ going (withWaiting waiting m) (take len line) (take written out))
-    × (drop written out ≡ drop written out₀)
+    Keeps log out₀ (going (withWaiting waiting₀ m₀) (take len₀ line₀) []) out line «record» at len written (withWaiting waiting m)
 
 abbrev μ-loop : tie.MeasureT-loop
 μ-loop log out₀ m₀ waiting₀ line₀ len₀ record₀ at₀ written₀ out m waiting line len «record» at written = length log - at
 
+mul-change-cpu : tie.Need-mul-change-cpu Inv-loop μ-loop
+mul-change-cpu c = let inside = c .before .before .before .before .before .decide .ensures .cpu in search needs
+
+element-copy-out-change-cpu : tie.Need-element-copy-out-change-cpu Inv-loop μ-loop
+element-copy-out-change-cpu c = let inside = c .before .before .before .before .before .decide .ensures .cpu in search needs
+
+mul-t59 : tie.Need-mul-t59 Inv-loop μ-loop
+mul-t59 c = let inside = c .before .before .before .before .before .before .before .decide .ensures .cpu in search needs
+
+element-set-from-m : tie.Need-element-set-from-m Inv-loop μ-loop
+element-set-from-m c = let inside = c .before .before .before .before .before .before .before .decide .ensures .cpu in search needs
+
+mul-change-words : tie.Need-mul-change-words Inv-loop μ-loop
+mul-change-words c = let inside = c .before .before .before .before .before .before .before .before .before .decide .ensures .cell in search needs
+
+element-copy-out-change-words : tie.Need-element-copy-out-change-words Inv-loop μ-loop
+element-copy-out-change-words c = let inside = c .before .before .before .before .before .before .before .before .before .decide .ensures .cell in search needs
+
+mul-t95 : tie.Need-mul-t95 Inv-loop μ-loop
+mul-t95 c = let inside = c .before .before .before .before .before .before .before .before .before .before .before .decide .ensures .cell in search needs
+
+element-set-from-m-2 : tie.Need-element-set-from-m-2 Inv-loop μ-loop
+element-set-from-m-2 c = let inside = c .before .before .before .before .before .before .before .before .before .before .before .decide .ensures .cell in search needs
+
+mul-change-words-2 : tie.Need-mul-change-words-2 Inv-loop μ-loop
+mul-change-words-2 c = let inside = c .before .before .before .before .before .before .before .before .before .before .before .before .before .before .decide .ensures .cell in search needs
+
+element-copy-out-change-words-2 : tie.Need-element-copy-out-change-words-2 Inv-loop μ-loop
+element-copy-out-change-words-2 c = let inside = c .before .before .before .before .before .before .before .before .before .before .before .before .before .before .decide .ensures .cell in search needs
+
+mul-t105 : tie.Need-mul-t105 Inv-loop μ-loop
+mul-t105 c = let inside = c .before .before .before .before .before .before .before .before .before .before .before .before .before .before .before .before .decide .ensures .cell in search needs
+
+element-set-from-m-3 : tie.Need-element-set-from-m-3 Inv-loop μ-loop
+element-set-from-m-3 c = let inside = c .before .before .before .before .before .before .before .before .before .before .before .before .before .before .before .before .decide .ensures .cell in search needs
+
+mul-change-words-3 : tie.Need-mul-change-words-3 Inv-loop μ-loop
+mul-change-words-3 c = let inside = c .before .before .before .before .before .before .before .before .before .before .before .before .before .before .before .before .before .before .before .before .before .decide .ensures .cell in search needs
+
+element-copy-out-change-words-3 : tie.Need-element-copy-out-change-words-3 Inv-loop μ-loop
+element-copy-out-change-words-3 c = let inside = c .before .before .before .before .before .before .before .before .before .before .before .before .before .before .before .before .before .before .before .before .before .decide .ensures .cell in search needs
+
+mul-t110 : tie.Need-mul-t110 Inv-loop μ-loop
+mul-t110 c = let inside = c .before .before .before .before .before .before .before .before .before .before .before .before .before .before .before .before .before .before .before .before .before .before .before .decide .ensures .cell in search needs
+
+element-set-from-m-5 : tie.Need-element-set-from-m-5 Inv-loop μ-loop
+element-set-from-m-5 c = let inside = c .before .before .before .before .before .before .before .before .before .before .before .before .before .before .before .before .before .before .before .before .before .before .before .decide .ensures .cell in search needs
+
+mul-numbers-after : tie.Need-mul-numbers-after Inv-loop μ-loop
+mul-numbers-after c = let inside = c .before .before .before .cell-index2 .ensures .inside in search needs
+
+element-copy-out-numbers-after : tie.Need-element-copy-out-numbers-after Inv-loop μ-loop
+element-copy-out-numbers-after c = let inside = c .before .before .before .cell-index2 .ensures .inside in search needs
+
+mul-numbers-after-2 : tie.Need-mul-numbers-after-2 Inv-loop μ-loop
+mul-numbers-after-2 c = let inside = c .before .before .before .cell-index2 .ensures .inside in search needs
+
+element-copy-out-numbers-after-2 : tie.Need-element-copy-out-numbers-after-2 Inv-loop μ-loop
+element-copy-out-numbers-after-2 c = let inside = c .before .before .before .cell-index2 .ensures .inside in search needs
+
+mul-words-after : tie.Need-mul-words-after Inv-loop μ-loop
+mul-words-after c = let inside = c .before .before .before .before .before .before .cell-index2 .ensures .inside in search needs
+
+element-copy-out-words-after : tie.Need-element-copy-out-words-after Inv-loop μ-loop
+element-copy-out-words-after c = let inside = c .before .before .before .before .before .before .cell-index2 .ensures .inside in search needs
+
+mul-m : tie.Need-mul-m Inv-loop μ-loop
+mul-m c = let inside = c .before .before .before .before .before .before .before .before .cell-index2 .ensures .inside in search needs
+
+element-set-from-m-4 : tie.Need-element-set-from-m-4 Inv-loop μ-loop
+element-set-from-m-4 c = let inside = c .before .before .before .before .before .before .before .before .cell-index2 .ensures .inside in search needs
+
+mul-t140 : tie.Need-mul-t140 Inv-loop μ-loop
+mul-t140 c = let inside = c .before .before .before .before .before .before .before .before .before .before .before .before .before .before .before .before .cell-index2 .ensures .inside in search needs
+
+element-set-from-m-6 : tie.Need-element-set-from-m-6 Inv-loop μ-loop
+element-set-from-m-6 c = let inside = c .before .before .before .before .before .before .before .before .before .before .before .before .before .before .before .before .cell-index2 .ensures .inside in search needs
+
+mul-with-phase : tie.Need-mul-with-phase Inv-loop μ-loop
+mul-with-phase c = let inside = c .before .before .before .before .before .before .before .before .before .before .before .before .before .before .cell-index2 .ensures .inside in search needs
+
+element-copy-out-with-phase : tie.Need-element-copy-out-with-phase Inv-loop μ-loop
+element-copy-out-with-phase c = let inside = c .before .before .before .before .before .before .before .before .before .before .before .before .before .before .cell-index2 .ensures .inside in search needs
+
+mul-t148 : tie.Need-mul-t148 Inv-loop μ-loop
+mul-t148 c = let inside = c .before .before .before .before .before .before .before .before .before .before .before .before .before .before .before .before .cell-index2 .ensures .inside in search needs
+
+element-set-from-m-7 : tie.Need-element-set-from-m-7 Inv-loop μ-loop
+element-set-from-m-7 c = let inside = c .before .before .before .before .before .before .before .before .before .before .before .before .before .before .before .before .cell-index2 .ensures .inside in search needs
+
+mul-t152 : tie.Need-mul-t152 Inv-loop μ-loop
+mul-t152 c = let inside = c .before .before .before .before .before .before .before .before .before .before .before .before .before .before .cell-index2 .ensures .inside in search needs
+
+element-set-from-m-8 : tie.Need-element-set-from-m-8 Inv-loop μ-loop
+element-set-from-m-8 c = let inside = c .before .before .before .before .before .before .before .before .before .before .before .before .before .before .cell-index2 .ensures .inside in search needs
+
+part-scan-end : tie.Need-part-scan-end Inv-loop μ-loop
+part-scan-end c =
+    let read = c .before .before .before .before .before .before .before .before .before .before .before .before .before in
+    let head = read .before .before .before .before .before .before .before .before .before .before .before .before in
+    record-fits _ _ _ _ (head .loop .inv .5) (read .read-line .ensures)
+
+part-figures-of-end : tie.Need-part-figures-of-end Inv-loop μ-loop
+part-figures-of-end c =
+    let read = c .before .before .before .before .before .before .before .before .before .before .before .before .before .before .before .before .before .before .before .before .before .before .before .before .before .before .before .before .before .before .before .before in
+    let head = read .before .before .before .before .before .before .before .before .before .before .before .before in
+    record-fits _ _ _ _ (head .loop .inv .5) (read .read-line .ensures)
+
+part-new-cell-end : tie.Need-part-new-cell-end Inv-loop μ-loop
+part-new-cell-end c =
+    let read = c .before .before .before .before .before .before .before .before .before .before .before .before .before .before .before .before .before .before .before .before .before .before .before .before .before .before .before .before .before .before .before .before .before .before .before .before .before .before .before .before .before .before .before .before .before in
+    let head = read .before .before .before .before .before .before .before .before .before .before .before .before in
+    record-fits _ _ _ _ (head .loop .inv .5) (read .read-line .ensures)
+
 slice-aggregate-read-line : tie.Need-slice-aggregate-read-line Inv-loop μ-loop
-slice-aggregate-read-line c =
-    let turn = c .before .before .before .before .before .before .before .before .before in
-    sym (turn .before .before .loop .inv .5)
+slice-aggregate-read-line c = sym (c .before .before .before .before .before .before .before .before .before .before .before .loop .inv .5)
+
+put-requires : tie.Need-put-requires Inv-loop μ-loop
+put-requires c κs =
+    let turn = c .before .before .before .before .before .before .before .before .before .before .before .before .before .before .before .before .before .before .before .before .before .before .before .before .before .before .before .before .before .before in
+    let head = turn .before .before in
+    let l = head .loop in
+    let go = may-go (l .at) _ (l .written) (length (l .out)) (turn .before .goes-on .result) (turn .before .goes-on .ensures) (turn .if1 .taken) in
+    (l .inv .1, go .1)
+
+loop-less : tie.Need-loop-less Inv-loop μ-loop
+loop-less c =
+    let ends = c .before .before .before .before .before .before .before .before .before .before .before .before .before .before .before .before .before .before .before .before .before .before .before .before .before .before .before .before .before .before .before .before .before in
+    let found = ends .before .before .before .before .before in
+    let head = found .before .before .before in
+    less-turn _ (head .loop .at) (found .line-end .result) _ (found .line-end .ensures .0) (ends .if2 .taken)
+
+loop-less-2 : tie.Need-loop-less-2 Inv-loop μ-loop
+loop-less-2 c =
+    let ends = c .before .before .before .before .before .before .before .before .before .before .before .before .before .before .before .before .before .before .before .before .before .before .before .before .before .before .before .before .before .before .before .before .before .before .before .before .before .before in
+    let found = ends .before .before .before .before .before in
+    let head = found .before .before .before in
+    less-turn _ (head .loop .at) (found .line-end .result) _ (found .line-end .ensures .0) (ends .if2 .taken)
+
+loop-less-3 : tie.Need-loop-less-3 Inv-loop μ-loop
+loop-less-3 c =
+    let ends = c .before .before .before .before .before .before .before .before .before .before .before .before .before .before .before .before .before .before .before .before .before .before .before .before .before .before .before .before .before .before .before .before .before .before .before .before .before .before .before .before .before .before .before .before .before .before .before .before in
+    let found = ends .before .before .before .before .before in
+    let head = found .before .before .before in
+    less-turn _ (head .loop .at) (found .line-end .result) _ (found .line-end .ensures .0) (ends .if2 .taken)
+
+loop-less-4 : tie.Need-loop-less-4 Inv-loop μ-loop
+loop-less-4 c =
+    let ends = c .before .before .before .before .before .before .before .before .before .before .before .before .before .before .before .before .before .before .before .before .before .before .before .before .before .before .before .before .before .before .before .before .before .before .before .before .before .before .before .before .before .before .before .before .before .before .before .before .before .before .before in
+    let found = ends .before .before .before .before .before in
+    let head = found .before .before .before in
+    less-turn _ (head .loop .at) (found .line-end .result) _ (found .line-end .ensures .0) (ends .if2 .taken)
+
+loop-less-5 : tie.Need-loop-less-5 Inv-loop μ-loop
+loop-less-5 c =
+    let ends = c .before .before .before .before .before .before .before .before .before .before .before .before .before .before .before .before .before .before .before .before .before .before .before .before .before .before .before .before .before .before .before .before .before .before .before .before .before .before .before .before .before .before .before .before .before .before .before .before .before .before .before in
+    let found = ends .before .before .before .before .before in
+    let head = found .before .before .before in
+    less-turn _ (head .loop .at) (found .line-end .result) _ (found .line-end .ensures .0) (ends .if2 .taken)
+
+loop-less-6 : tie.Need-loop-less-6 Inv-loop μ-loop
+loop-less-6 c =
+    let ends = c .before .before .before .before .before .before .before .before .before .before .before .before .before .before .before .before .before .before .before .before .before .before .before .before .before .before .before .before .before .before .before .before .before .before .before .before .before .before .before .before .before .before .before .before .before .before .before .before .before in
+    let found = ends .before .before .before .before .before in
+    let head = found .before .before .before in
+    less-turn _ (head .loop .at) (found .line-end .result) _ (found .line-end .ensures .0) (ends .if2 .taken)
+
+loop-again : tie.Need-loop-again Inv-loop μ-loop
+unfolding answered withWaiting withCpus withComm effectOf
+loop-again c =
+    let touched = c .before .before .before .before in
+    let wrote = touched .before .before .before .before in
+    let decided = wrote .before .before .before in
+    let scanned = decided .before .before .before in
+    let at = scanned .before .before .before .before in
+    let own = at .before in
+    let asked = own .before .before in
+    let cpu = asked .before .before in
+    let read = cpu .before .before .before .before .before .before in
+    let ends = read .before .before .before .before in
+    let took = ends .before .before in
+    let found = took .before .before .before in
+    let turn = found .before in
+    let head = turn .before .before in
+    let l = head .loop in
+    let d = decided .decide .result in
+    let met = withWaiting (l .waiting) (l .m) in
+    let new = cellOf (take (read .read-line .result .len - 0) (read .read-line .last .1 .0)) in
+    let sizes = scanned .scan .ensures in
+    let says = sizes .found met (scan-parts met _ _ _ (cpu .cpu-for .ensures) (at .words-for .ensures) _ (own .cell-index .ensures)) in
+    let back = toZ-ofZ {w = w32} {z = scanned .scan .result} (record { sfits = scanned .scan .ok }) in
+    let steps =
+    decided .decide .ensures .settles _ met
+    (refl, all-parts met _ _ _ (cpu .cpu-for .ensures) (at .words-for .ensures) _ _ _ _ (asked .asked-for .ensures) (sizes .words) (sizes .cpus) back says) in
+    let p = touched .change-cpu .result in
+    let told = c .before .before in
+    let isNext = sym (ap (λ (x : Effect). effectOf x new (withCpu (d .cpu) p met)) (told .enum-told .given .1)) in
+    ended-turn _ _ _ _ _ _ _ _ _ met (l .inv) _ (took .append .result) (took .append .last .0) _ _ _ _ _ _ (found .line-end .ensures .0) (ends .if2 .taken) (took .append .ensures .0) (took .append .ensures .1 .1)
+    (read .read-line .ensures) (wrote .put .ensures)
+    (applied d new met p (withCpu (d .cpu) p met) (c .change-words .result) _ (touched .change-cpu .ensures) isNext (c .change-words .ensures) refl ∙ steps)
+
+loop-again-2 : tie.Need-loop-again-2 Inv-loop μ-loop
+unfolding answered withWaiting withCpus withComm
+loop-again-2 c =
+    let touched = c .before .before .before .before .before .before .before .before .before in
+    let wrote = touched .before .before .before .before in
+    let decided = wrote .before .before .before in
+    let scanned = decided .before .before .before in
+    let at = scanned .before .before .before .before in
+    let own = at .before in
+    let asked = own .before .before in
+    let cpu = asked .before .before in
+    let read = cpu .before .before .before .before .before .before in
+    let ends = read .before .before .before .before in
+    let took = ends .before .before in
+    let found = took .before .before .before in
+    let turn = found .before in
+    let head = turn .before .before in
+    let l = head .loop in
+    let d = decided .decide .result in
+    let met = withWaiting (l .waiting) (l .m) in
+    let new = cellOf (take (read .read-line .result .len - 0) (read .read-line .last .1 .0)) in
+    let sizes = scanned .scan .ensures in
+    let says = sizes .found met (scan-parts met _ _ _ (cpu .cpu-for .ensures) (at .words-for .ensures) _ (own .cell-index .ensures)) in
+    let back = toZ-ofZ {w = w32} {z = scanned .scan .result} (record { sfits = scanned .scan .ok }) in
+    let steps =
+    decided .decide .ensures .settles _ met
+    (refl, all-parts met _ _ _ (cpu .cpu-for .ensures) (at .words-for .ensures) _ _ _ _ (asked .asked-for .ensures) (sizes .words) (sizes .cpus) back says) in
+    let p = touched .change-cpu .result in
+    let off = c .before .before in
+    let held = off .before in
+    let test = held .before in
+    let all = test .before in
+    let told = all .before .before in
+    let isNext = disable-comes new (withCpu (d .cpu) p met) _ _ _ _ (told .effect .given .1) (sym (all .is-disable .ensures) ∙ test .if3 .taken) (off .disable .ensures ∙ ap disabled (held .with-waiting .ensures)) in
+    ended-turn _ _ _ _ _ _ _ _ _ met (l .inv) _ (took .append .result) (took .append .last .0) _ _ _ _ _ _ (found .line-end .ensures .0) (ends .if2 .taken) (took .append .ensures .0) (took .append .ensures .1 .1)
+    (read .read-line .ensures) (wrote .put .ensures)
+    (applied d new met p (off .disable .result) (c .change-words2 .result) _ (touched .change-cpu .ensures) isNext (c .change-words2 .ensures) refl ∙ steps)
+
+loop-again-3 : tie.Need-loop-again-3 Inv-loop μ-loop
+unfolding answered withWaiting withCpus withComm partsStored changedCell
+loop-again-3 c =
+    let touched = c .before .before .before .before .before .before .before .before .before .before .before .before .before .before .before .before .before .before .before in
+    let wrote = touched .before .before .before .before in
+    let decided = wrote .before .before .before in
+    let scanned = decided .before .before .before in
+    let at = scanned .before .before .before .before in
+    let own = at .before in
+    let asked = own .before .before in
+    let cpu = asked .before .before in
+    let read = cpu .before .before .before .before .before .before in
+    let ends = read .before .before .before .before in
+    let took = ends .before .before in
+    let found = took .before .before .before in
+    let turn = found .before in
+    let head = turn .before .before in
+    let l = head .loop in
+    let d = decided .decide .result in
+    let met = withWaiting (l .waiting) (l .m) in
+    let new = cellOf (take (read .read-line .result .len - 0) (read .read-line .last .1 .0)) in
+    let sizes = scanned .scan .ensures in
+    let says = sizes .found met (scan-parts met _ _ _ (cpu .cpu-for .ensures) (at .words-for .ensures) _ (own .cell-index .ensures)) in
+    let back = toZ-ofZ {w = w32} {z = scanned .scan .result} (record { sfits = scanned .scan .ok }) in
+    let steps =
+    decided .decide .ensures .settles _ met
+    (refl, all-parts met _ _ _ (cpu .cpu-for .ensures) (at .words-for .ensures) _ _ _ _ (asked .asked-for .ensures) (sizes .words) (sizes .cpus) back says) in
+    let p = touched .change-cpu .result in
+    let moved = c .before .before in
+    let changed = moved .before in
+    let words = changed .before .before in
+    let cpus = words .before .before in
+    let numbers = cpus .before .before in
+    let figures = numbers .before in
+    let place = figures .before .before .before in
+    let test = place .before in
+    let all = test .before in
+    let told = all .before .before in
+    let i = place .cell-index2 .result in
+    let isNext = kept-cell (numbers .numbers-after .result) i (words .words-after .result) (cpus .change-cpus .result) (withCpu (d .cpu) p met)
+    ∙ stored-effect met (d .cpu) p _ _ _ i new _ (numbers .numbers-after .result) (words .words-after .result) (cpus .change-cpus .result) _ (cellAt met i) (told .effect .given .1) (sym (all .is-disable .ensures) ∙ test .if3 .left)
+    (place .cell-index2 .ensures) (sizes .cells) (sizes .words) (figures .figures-of .ensures) (numbers .numbers-after .ensures) (words .words-after .ensures)
+    (cpus .change-cpus .ensures) (moved .cell-change .ensures) (as-changed _ _ new _ _ (c .enum-told2 .given .1) refl) in
+    ended-turn _ _ _ _ _ _ _ _ _ met (l .inv) _ (took .append .result) (took .append .last .0) _ _ _ _ _ _ (found .line-end .ensures .0) (ends .if2 .taken) (took .append .ensures .0) (took .append .ensures .1 .1)
+    (read .read-line .ensures) (wrote .put .ensures)
+    (applied d new met p (partsKept (numbers .numbers-after .result) i (words .words-after .result) (cpus .change-cpus .result) (withCpu (d .cpu) p met)) (changed .change-words3 .result) _ (touched .change-cpu .ensures) isNext (changed .change-words3 .ensures) refl ∙ steps)
+
+loop-again-4 : tie.Need-loop-again-4 Inv-loop μ-loop
+unfolding answered withWaiting withCpus withComm partsStored changedCell
+loop-again-4 c =
+    let touched = c .before .before .before .before .before .before .before .before .before .before .before .before .before .before .before .before .before .before .before .before .before .before in
+    let wrote = touched .before .before .before .before in
+    let decided = wrote .before .before .before in
+    let scanned = decided .before .before .before in
+    let at = scanned .before .before .before .before in
+    let own = at .before in
+    let asked = own .before .before in
+    let cpu = asked .before .before in
+    let read = cpu .before .before .before .before .before .before in
+    let ends = read .before .before .before .before in
+    let took = ends .before .before in
+    let found = took .before .before .before in
+    let turn = found .before in
+    let head = turn .before .before in
+    let l = head .loop in
+    let d = decided .decide .result in
+    let met = withWaiting (l .waiting) (l .m) in
+    let new = cellOf (take (read .read-line .result .len - 0) (read .read-line .last .1 .0)) in
+    let sizes = scanned .scan .ensures in
+    let says = sizes .found met (scan-parts met _ _ _ (cpu .cpu-for .ensures) (at .words-for .ensures) _ (own .cell-index .ensures)) in
+    let back = toZ-ofZ {w = w32} {z = scanned .scan .result} (record { sfits = scanned .scan .ok }) in
+    let steps =
+    decided .decide .ensures .settles _ met
+    (refl, all-parts met _ _ _ (cpu .cpu-for .ensures) (at .words-for .ensures) _ _ _ _ (asked .asked-for .ensures) (sizes .words) (sizes .cpus) back says) in
+    let p = touched .change-cpu .result in
+    let moved = c .before .before .before .before .before in
+    let changed = moved .before in
+    let words = changed .before .before in
+    let cpus = words .before .before in
+    let numbers = cpus .before .before in
+    let figures = numbers .before in
+    let place = figures .before .before .before in
+    let test = place .before in
+    let all = test .before in
+    let told = all .before .before in
+    let i = place .cell-index2 .result in
+    let isNext = stored-effect met (d .cpu) p _ _ _ i new _ (numbers .numbers-after .result) (words .words-after .result) (cpus .change-cpus .result) _ (c .new-cell .result) (told .effect .given .1) (sym (all .is-disable .ensures) ∙ test .if3 .left)
+    (place .cell-index2 .ensures) (sizes .cells) (sizes .words) (figures .figures-of .ensures) (numbers .numbers-after .ensures) (words .words-after .ensures)
+    (cpus .change-cpus .ensures) (moved .cell-change .ensures) (as-changed _ _ new _ _ (c .before .before .before .enum-told3 .given .1) (c .new-cell .ensures)) in
+    ended-turn _ _ _ _ _ _ _ _ _ met (l .inv) _ (took .append .result) (took .append .last .0) _ _ _ _ _ _ (found .line-end .ensures .0) (ends .if2 .taken) (took .append .ensures .0) (took .append .ensures .1 .1)
+    (read .read-line .ensures) (wrote .put .ensures)
+    (applied d new met p (partsStored (numbers .numbers-after .result) i (c .new-cell .result) (words .words-after .result) (cpus .change-cpus .result) (withCpu (d .cpu) p met)) (changed .change-words3 .result) _ (touched .change-cpu .ensures) isNext (changed .change-words3 .ensures) refl ∙ steps)
+
+loop-again-5 : tie.Need-loop-again-5 Inv-loop μ-loop
+unfolding answered withWaiting withCpus withComm partsStored changedCell
+loop-again-5 c =
+    let touched = c .before .before .before .before .before .before .before .before .before .before .before .before .before .before .before .before .before .before .before .before .before .before in
+    let wrote = touched .before .before .before .before in
+    let decided = wrote .before .before .before in
+    let scanned = decided .before .before .before in
+    let at = scanned .before .before .before .before in
+    let own = at .before in
+    let asked = own .before .before in
+    let cpu = asked .before .before in
+    let read = cpu .before .before .before .before .before .before in
+    let ends = read .before .before .before .before in
+    let took = ends .before .before in
+    let found = took .before .before .before in
+    let turn = found .before in
+    let head = turn .before .before in
+    let l = head .loop in
+    let d = decided .decide .result in
+    let met = withWaiting (l .waiting) (l .m) in
+    let new = cellOf (take (read .read-line .result .len - 0) (read .read-line .last .1 .0)) in
+    let sizes = scanned .scan .ensures in
+    let says = sizes .found met (scan-parts met _ _ _ (cpu .cpu-for .ensures) (at .words-for .ensures) _ (own .cell-index .ensures)) in
+    let back = toZ-ofZ {w = w32} {z = scanned .scan .result} (record { sfits = scanned .scan .ok }) in
+    let steps =
+    decided .decide .ensures .settles _ met
+    (refl, all-parts met _ _ _ (cpu .cpu-for .ensures) (at .words-for .ensures) _ _ _ _ (asked .asked-for .ensures) (sizes .words) (sizes .cpus) back says) in
+    let p = touched .change-cpu .result in
+    let moved = c .before .before .before .before .before in
+    let changed = moved .before in
+    let words = changed .before .before in
+    let cpus = words .before .before in
+    let numbers = cpus .before .before in
+    let figures = numbers .before in
+    let place = figures .before .before .before in
+    let test = place .before in
+    let all = test .before in
+    let told = all .before .before in
+    let i = place .cell-index2 .result in
+    let isNext = stored-effect met (d .cpu) p _ _ _ i new _ (numbers .numbers-after .result) (words .words-after .result) (cpus .change-cpus .result) _ (c .with-phase .result) (told .effect .given .1) (sym (all .is-disable .ensures) ∙ test .if3 .left)
+    (place .cell-index2 .ensures) (sizes .cells) (sizes .words) (figures .figures-of .ensures) (numbers .numbers-after .ensures) (words .words-after .ensures)
+    (cpus .change-cpus .ensures) (moved .cell-change .ensures) (as-changed _ _ new _ _ (c .before .before .before .change .given .1) (c .with-phase .ensures)) in
+    ended-turn _ _ _ _ _ _ _ _ _ met (l .inv) _ (took .append .result) (took .append .last .0) _ _ _ _ _ _ (found .line-end .ensures .0) (ends .if2 .taken) (took .append .ensures .0) (took .append .ensures .1 .1)
+    (read .read-line .ensures) (wrote .put .ensures)
+    (applied d new met p (partsStored (numbers .numbers-after .result) i (c .with-phase .result) (words .words-after .result) (cpus .change-cpus .result) (withCpu (d .cpu) p met)) (changed .change-words3 .result) _ (touched .change-cpu .ensures) isNext (changed .change-words3 .ensures) refl ∙ steps)
+
+loop-again-6 : tie.Need-loop-again-6 Inv-loop μ-loop
+unfolding answered withWaiting withCpus withComm partsStored changedCell
+loop-again-6 c =
+    let touched = c .before .before .before .before .before .before .before .before .before .before .before .before .before .before .before .before .before .before .before .before in
+    let wrote = touched .before .before .before .before in
+    let decided = wrote .before .before .before in
+    let scanned = decided .before .before .before in
+    let at = scanned .before .before .before .before in
+    let own = at .before in
+    let asked = own .before .before in
+    let cpu = asked .before .before in
+    let read = cpu .before .before .before .before .before .before in
+    let ends = read .before .before .before .before in
+    let took = ends .before .before in
+    let found = took .before .before .before in
+    let turn = found .before in
+    let head = turn .before .before in
+    let l = head .loop in
+    let d = decided .decide .result in
+    let met = withWaiting (l .waiting) (l .m) in
+    let new = cellOf (take (read .read-line .result .len - 0) (read .read-line .last .1 .0)) in
+    let sizes = scanned .scan .ensures in
+    let says = sizes .found met (scan-parts met _ _ _ (cpu .cpu-for .ensures) (at .words-for .ensures) _ (own .cell-index .ensures)) in
+    let back = toZ-ofZ {w = w32} {z = scanned .scan .result} (record { sfits = scanned .scan .ok }) in
+    let steps =
+    decided .decide .ensures .settles _ met
+    (refl, all-parts met _ _ _ (cpu .cpu-for .ensures) (at .words-for .ensures) _ _ _ _ (asked .asked-for .ensures) (sizes .words) (sizes .cpus) back says) in
+    let p = touched .change-cpu .result in
+    let moved = c .before .before .before in
+    let changed = moved .before in
+    let words = changed .before .before in
+    let cpus = words .before .before in
+    let numbers = cpus .before .before in
+    let figures = numbers .before in
+    let place = figures .before .before .before in
+    let test = place .before in
+    let all = test .before in
+    let told = all .before .before in
+    let i = place .cell-index2 .result in
+    let isNext = stored-effect met (d .cpu) p _ _ _ i new _ (numbers .numbers-after .result) (words .words-after .result) (cpus .change-cpus .result) _ (c .no-cell .result) (told .effect .given .1) (sym (all .is-disable .ensures) ∙ test .if3 .left)
+    (place .cell-index2 .ensures) (sizes .cells) (sizes .words) (figures .figures-of .ensures) (numbers .numbers-after .ensures) (words .words-after .ensures)
+    (cpus .change-cpus .ensures) (moved .cell-change .ensures) (as-changed _ _ new _ _ (c .before .enum-told4 .given .1) (c .no-cell .ensures)) in
+    ended-turn _ _ _ _ _ _ _ _ _ met (l .inv) _ (took .append .result) (took .append .last .0) _ _ _ _ _ _ (found .line-end .ensures .0) (ends .if2 .taken) (took .append .ensures .0) (took .append .ensures .1 .1)
+    (read .read-line .ensures) (wrote .put .ensures)
+    (applied d new met p (partsStored (numbers .numbers-after .result) i (c .no-cell .result) (words .words-after .result) (cpus .change-cpus .result) (withCpu (d .cpu) p met)) (changed .change-words3 .result) _ (touched .change-cpu .ensures) isNext (changed .change-words3 .ensures) refl ∙ steps)
+
+loop-less-7 : tie.Need-loop-less-7 Inv-loop μ-loop
+loop-less-7 c =
+    let took = c .before .before in
+    let found = took .before .before .before in
+    let turn = found .before in
+    let head = turn .before .before in
+    let l = head .loop in
+    less-end _ (l .at) (found .line-end .result)
+    (may-go (l .at) _ (l .written) (length (l .out)) (turn .before .goes-on .result) (turn .before .goes-on .ensures) (turn .if1 .taken) .0) (c .if2 .left)
+
+loop-again-7 : tie.Need-loop-again-7 Inv-loop μ-loop
+loop-again-7 c =
+    let took = c .before .before in
+    let found = took .before .before .before in
+    let head = found .before .before .before in
+    let l = head .loop in
+    let log = c .before .before .before .before .before .before .before .before .before .before .before .before .before .before .args .log .now in
+    let p = took .append in (
+      found .line-end .ensures .1,
+      l .inv .1,
+      l .inv .2,
+      subst (λ (n : ℕ). p .result ≤ n) (l .inv .4) (p .ensures .1 .0),
+      p .ensures .1 .1 ∙ l .inv .4,
+      l .inv .5,
+      goes-open log (l .at) (found .line-end .result) _ (withWaiting (l .waiting) (l .m)) (take (l .len) (l .line)) (take (l .written) (l .out)) (l .inv .6) (begun-short (l .line) (l .len) (l .inv .3)) (found .line-end .ensures .0) _
+          (p .ensures .0 ∙ ap (λ (n : ℕ). take n (take (l .len) (l .line) ++ take (found .line-end .result - l .at) (drop (l .at) log))) (l .inv .4)),
+      l .inv .7,
+    )
 
 loop-holds : tie.Need-loop-holds Inv-loop μ-loop
 unfolding feed
@@ -50,218 +498,6 @@ loop-holds c =
   where
     low : (a b n : ℕ) → n ≡ min a b → n ≤ b
     low a b n e = omega arith
-
--- the record that a line brings fits its buffer
-part-decide-end : tie.Need-part-decide-end Inv-loop μ-loop
-part-decide-end c =
-    let read = c .before .before .before .before .before .before in
-    let took = read .before .before .before .before .before .before in
-    let turn = took .before .before .before .before in
-    let l = turn .before .before .loop in
-    let r = read .read-line in
-    let line = take (took .append .result - 0) (took .append .last .0) in
-    subst (λ (n : ℕ). r .result .len ≤ n)
-    (l .inv .5 ∙ sym (record-size line (l .«record») (r .last .1 .0) (r .result .len) (l .inv .5) (r .ensures .size) (r .ensures .bytes)))
-    (record-inside line (l .«record») (r .last .1 .0) (r .result .len) (l .inv .5) (r .ensures .size) (r .ensures .bytes))
-
-part-carry-out-end : tie.Need-part-carry-out-end Inv-loop μ-loop
-part-carry-out-end c =
-    let touched = c .before .before .before .before in
-    let decided = touched .before .before .before .before .before .before .before in
-    let read = decided .before .before .before .before .before .before .before .before in
-    let took = read .before .before .before .before .before .before in
-    let turn = took .before .before .before .before in
-    let l = turn .before .before .loop in
-    let r = read .read-line in
-    let line = take (took .append .result - 0) (took .append .last .0) in
-    subst (λ (n : ℕ). r .result .len ≤ n)
-    (l .inv .5 ∙ sym (record-size line (l .«record») (r .last .1 .0) (r .result .len) (l .inv .5) (r .ensures .size) (r .ensures .bytes)))
-    (record-inside line (l .«record») (r .last .1 .0) (r .result .len) (l .inv .5) (r .ensures .size) (r .ensures .bytes))
-
-put-requires : tie.Need-put-requires Inv-loop μ-loop
-put-requires c κs =
-    let decided = c .before .before in
-    let read = decided .before .before .before .before .before .before .before .before in
-    let took = read .before .before .before .before .before .before in
-    let turn = took .before .before .before .before in
-    let l = turn .before .before .loop in
-    let go = may-go (l .at) _ (l .written) (length (l .out)) (turn .before .goes-on .result) (turn .before .goes-on .ensures) (turn .if1 .taken) in
-    (l .inv .1, go .1)
-
-loop-less : tie.Need-loop-less Inv-loop μ-loop
-loop-less c =
-    let touched = c .before .before .before .before in
-    let wrote = touched .before .before .before .before in
-    let read = wrote .before .before .before .before .before .before .before .before .before .before .before in
-    let ends = read .before .before .before .before in
-    let took = ends .before .before in
-    let e = took .before .before .before .line-end in
-    let turn = took .before .before .before .before in
-    less-turn _ (turn .before .before .loop .at) (e .result) _ (e .ensures .0) (ends .if2 .taken)
-
-loop-again : tie.Need-loop-again Inv-loop μ-loop
-unfolding answered withWaiting withCpus withComm effectOf
-loop-again c =
-    let told = c .before .before in
-    let touched = told .before .before in
-    let wrote = touched .before .before .before .before in
-    let decided = wrote .before .before .before in
-    let read = decided .before .before .before .before .before .before .before .before in
-    let ends = read .before .before .before .before in
-    let took = ends .before .before in
-    let e = took .before .before .before .line-end in
-    let turn = took .before .before .before .before in
-    let l = turn .before .before .loop in
-    let entry = turn .before .before .before .before .before .before .before .before in
-    let a = entry .args in
-    let p = took .append in
-    let r = read .read-line in
-    let u = wrote .put in
-    let d = decided .decide .result in
-    let line = take (p .result - 0) (p .last .0) in
-    let bytes = take (r .result .len - 0) (r .last .1 .0) in
-    let met = withWaiting (l .waiting) (l .m) in
-    let cpu = touched .change-cpu .result in
-    let counted = withCpu (d .cpu) cpu met in
-    let next = counted in
-    let words = c .change-words .result in
-    let isNext = sym (ap (λ (x : Effect). effectOf x (cellOf bytes) counted) (told .enum-told .given .1)) in
-    let isStep =
-    applied d (cellOf bytes) met cpu next words _ (touched .change-cpu .ensures) isNext (c .change-words .ensures) refl
-    ∙ decided .decide .ensures .steps
-    ∙ ap₂ (λ (x : Event) (b : List ℕ). step x b met) (r .ensures .event)
-    (whole-part (r .result .len) (r .last .1 .0) ∙ record-read line (l .«record») (r .last .1 .0) (r .result .len) (l .inv .5) (r .ensures .size) (r .ensures .bytes)) in (
-      next-inside (e .result) _ (ends .if2 .taken),
-      subst (λ (n : ℕ). u .result ≤ n) (sym (u .ensures .size)) (u .ensures .inside),
-      u .ensures .size ∙ l .inv .2,
-      zero-le,
-      p .ensures .1 .1 ∙ l .inv .4,
-      record-size line (l .«record») (r .last .1 .0) (r .result .len) (l .inv .5) (r .ensures .size) (r .ensures .bytes),
-      goes-on-ended (a .log .now) (l .at) (e .result) _ met (take (l .len) (l .line)) (take (l .written) (l .out)) (l .inv .6) (begun-short (l .line) (l .len) (l .inv .3)) (e .ensures .0) line
-          (whole-part (p .result) (p .last .0) ∙ p .ensures .0 ∙ ap (λ (n : ℕ). take n (take (l .len) (l .line) ++ take (e .result - l .at) (drop (l .at) (a .log .now)))) (l .inv .4))
-          (ends .if2 .taken) (d .moves .answer) _ _ isStep (u .ensures .text),
-      u .ensures .rest
-          ∙ subst (λ (n : ℕ). drop n (l .out) ≡ drop n (a .out .now)) (sym (u .ensures .ahead))
-          (drop-further (l .out) (a .out .now) (l .written) (length (answerLine (d .moves .answer))) (l .inv .7)),
-    )
-
-loop-less-2 : tie.Need-loop-less-2 Inv-loop μ-loop
-loop-less-2 c =
-    let held = c .before .before .before .before .before in
-    let touched = held .before .before .before in
-    let wrote = touched .before .before .before .before in
-    let read = wrote .before .before .before .before .before .before .before .before .before .before .before in
-    let ends = read .before .before .before .before in
-    let took = ends .before .before in
-    let e = took .before .before .before .line-end in
-    let turn = took .before .before .before .before in
-    less-turn _ (turn .before .before .loop .at) (e .result) _ (e .ensures .0) (ends .if2 .taken)
-
-loop-again-2 : tie.Need-loop-again-2 Inv-loop μ-loop
-unfolding answered withWaiting withCpus withComm
-loop-again-2 c =
-    let carried = c .before .before in
-    let held = carried .before .before .before in
-    let touched = held .before .before .before in
-    let wrote = touched .before .before .before .before in
-    let decided = wrote .before .before .before in
-    let read = decided .before .before .before .before .before .before .before .before in
-    let ends = read .before .before .before .before in
-    let took = ends .before .before in
-    let e = took .before .before .before .line-end in
-    let turn = took .before .before .before .before in
-    let l = turn .before .before .loop in
-    let entry = turn .before .before .before .before .before .before .before .before in
-    let a = entry .args in
-    let p = took .append in
-    let r = read .read-line in
-    let u = wrote .put in
-    let d = decided .decide .result in
-    let line = take (p .result - 0) (p .last .0) in
-    let bytes = take (r .result .len - 0) (r .last .1 .0) in
-    let met = withWaiting (l .waiting) (l .m) in
-    let cpu = touched .change-cpu .result in
-    let counted = withCpu (d .cpu) cpu met in
-    let next = carried .carry-out .result in
-    let words = c .change-words2 .result in
-    let isNext = carried .carry-out .ensures ∙ ap (λ (x : Machine). effectOf (d .moves .effect) (cellOf bytes) x) (held .with-waiting .ensures) in
-    let isStep =
-    applied d (cellOf bytes) met cpu next words _ (touched .change-cpu .ensures) isNext (c .change-words2 .ensures) refl
-    ∙ decided .decide .ensures .steps
-    ∙ ap₂ (λ (x : Event) (b : List ℕ). step x b met) (r .ensures .event)
-    (whole-part (r .result .len) (r .last .1 .0) ∙ record-read line (l .«record») (r .last .1 .0) (r .result .len) (l .inv .5) (r .ensures .size) (r .ensures .bytes)) in (
-      next-inside (e .result) _ (ends .if2 .taken),
-      subst (λ (n : ℕ). u .result ≤ n) (sym (u .ensures .size)) (u .ensures .inside),
-      u .ensures .size ∙ l .inv .2,
-      zero-le,
-      p .ensures .1 .1 ∙ l .inv .4,
-      record-size line (l .«record») (r .last .1 .0) (r .result .len) (l .inv .5) (r .ensures .size) (r .ensures .bytes),
-      goes-on-ended (a .log .now) (l .at) (e .result) _ met (take (l .len) (l .line)) (take (l .written) (l .out)) (l .inv .6) (begun-short (l .line) (l .len) (l .inv .3)) (e .ensures .0) line
-          (whole-part (p .result) (p .last .0) ∙ p .ensures .0 ∙ ap (λ (n : ℕ). take n (take (l .len) (l .line) ++ take (e .result - l .at) (drop (l .at) (a .log .now)))) (l .inv .4))
-          (ends .if2 .taken) (d .moves .answer) _ _ isStep (u .ensures .text),
-      u .ensures .rest
-          ∙ subst (λ (n : ℕ). drop n (l .out) ≡ drop n (a .out .now)) (sym (u .ensures .ahead))
-          (drop-further (l .out) (a .out .now) (l .written) (length (answerLine (d .moves .answer))) (l .inv .7)),
-    )
-
--- the cell whose words change is in the table
-mul-change-words-2 : tie.Need-mul-change-words-2 Inv-loop μ-loop
-mul-change-words-2 c =
-    let touched = c .before .before .before .before .before .before in
-    let decided = touched .before .before .before .before .before .before .before in
-    let bound = decided .decide .ensures .cell in
-    search needs
-
-element-copy-out-change-words-2 : tie.Need-element-copy-out-change-words-2 Inv-loop μ-loop
-element-copy-out-change-words-2 c =
-    let touched = c .before .before .before .before .before .before in
-    let decided = touched .before .before .before .before .before .before .before in
-    let bound = decided .decide .ensures .cell in
-    search needs
-
-mul-t79 : tie.Need-mul-t79 Inv-loop μ-loop
-mul-t79 c =
-    let touched = c .before .before .before .before .before .before .before .before in
-    let decided = touched .before .before .before .before .before .before .before in
-    let bound = decided .decide .ensures .cell in
-    search needs
-
-element-set-from-m-3 : tie.Need-element-set-from-m-3 Inv-loop μ-loop
-element-set-from-m-3 c =
-    let touched = c .before .before .before .before .before .before .before .before in
-    let decided = touched .before .before .before .before .before .before .before in
-    let bound = decided .decide .ensures .cell in
-    search needs
-
--- the turn's line, put behind what was kept
-loop-less-3 : tie.Need-loop-less-3 Inv-loop μ-loop
-loop-less-3 c =
-    let took = c .before .before in
-    let e = took .before .before .before .line-end in
-    let turn = took .before .before .before .before in
-    let l = turn .before .before .loop in
-    less-end _ (l .at) (e .result)
-    (may-go (l .at) _ (l .written) (length (l .out)) (turn .before .goes-on .result) (turn .before .goes-on .ensures) (turn .if1 .taken) .0) (c .if2 .left)
-
-loop-again-3 : tie.Need-loop-again-3 Inv-loop μ-loop
-loop-again-3 c =
-    let took = c .before .before in
-    let e = took .before .before .before .line-end in
-    let turn = took .before .before .before .before in
-    let l = turn .before .before .loop in
-    let entry = turn .before .before .before .before .before .before .before .before in
-    let a = entry .args in
-    let p = took .append in (
-      e .ensures .1,
-      l .inv .1,
-      l .inv .2,
-      subst (λ (n : ℕ). p .result ≤ n) (l .inv .4) (p .ensures .1 .0),
-      p .ensures .1 .1 ∙ l .inv .4,
-      l .inv .5,
-      goes-open (a .log .now) (l .at) (e .result) _ (withWaiting (l .waiting) (l .m)) (take (l .len) (l .line)) (take (l .written) (l .out)) (l .inv .6) (begun-short (l .line) (l .len) (l .inv .3)) (e .ensures .0) _
-          (p .ensures .0 ∙ ap (λ (n : ℕ). take n (take (l .len) (l .line) ++ take (e .result - l .at) (drop (l .at) (a .log .now)))) (l .inv .4)),
-      l .inv .7,
-    )
 
 same-length : tie.Need-same-length Inv-loop μ-loop
 same-length c = c .before .before .before .loop .inv .2
@@ -290,4 +526,4 @@ returns c =
     }
 
 pub run-spec : {M : Type 1} → statement M
-run-spec = tie.close (tie.spec Inv-loop μ-loop (λ c κs. search needs) loop-holds (λ c κs. search needs) (λ c κs. search needs) (λ c. search needs) (λ c. search needs) (λ c. search needs) (λ c. search needs) (λ c κs. search needs) (λ c. search needs) (λ c. search needs) (λ c. search needs) (λ c. search needs) slice-aggregate-read-line (λ c κs. search needs) (λ c. search needs) (λ c. search needs) part-decide-end (λ c κs. search needs) put-requires (λ c. search needs) (λ c. search needs) (λ c κs. search needs) (λ c. search needs) (λ c. search needs) (λ c. search needs) (λ c. search needs) (λ c. search needs) (λ c κs. search needs) (λ c. search needs) (λ c. search needs) loop-less loop-again (λ c. search needs) (λ c κs. search needs) (λ c. search needs) (λ c. search needs) part-carry-out-end (λ c κs. search needs) mul-change-words-2 element-copy-out-change-words-2 (λ c κs. search needs) mul-t79 element-set-from-m-3 loop-less-2 loop-again-2 loop-less-3 loop-again-3 (λ c κs. search needs) same-length returns)
+run-spec = tie.close (tie.spec Inv-loop μ-loop (λ c κs. search needs) loop-holds (λ c κs. search needs) (λ c κs. search needs) (λ c. search needs) (λ c. search needs) (λ c. search needs) (λ c. search needs) (λ c κs. search needs) (λ c. search needs) (λ c. search needs) (λ c. search needs) (λ c. search needs) slice-aggregate-read-line (λ c κs. search needs) (λ c κs. search needs) (λ c. search needs) (λ c. search needs) (λ c κs. search needs) (λ c. search needs) (λ c. search needs) (λ c κs. search needs) (λ c κs. search needs) (λ c. search needs) (λ c. search needs) (λ c. search needs) (λ c. search needs) (λ c. search needs) (λ c. search needs) part-scan-end (λ c κs. search needs) (λ c κs. search needs) put-requires mul-change-cpu element-copy-out-change-cpu (λ c κs. search needs) mul-t59 element-set-from-m (λ c. search needs) mul-change-words element-copy-out-change-words (λ c κs. search needs) mul-t95 element-set-from-m-2 loop-less loop-again (λ c. search needs) (λ c κs. search needs) (λ c κs. search needs) (λ c κs. search needs) mul-change-words-2 element-copy-out-change-words-2 (λ c κs. search needs) mul-t105 element-set-from-m-3 loop-less-2 loop-again-2 (λ c κs. search needs) (λ c. search needs) (λ c. search needs) part-figures-of-end (λ c κs. search needs) mul-numbers-after element-copy-out-numbers-after mul-numbers-after-2 element-copy-out-numbers-after-2 (λ c κs. search needs) (λ c κs. search needs) mul-words-after element-copy-out-words-after (λ c κs. search needs) mul-m element-set-from-m-4 mul-change-words-3 element-copy-out-change-words-3 (λ c κs. search needs) mul-t110 element-set-from-m-5 (λ c κs. search needs) (λ c. search needs) loop-less-3 loop-again-3 (λ c. search needs) (λ c. search needs) (λ c. search needs) part-new-cell-end (λ c κs. search needs) mul-t140 element-set-from-m-6 loop-less-4 loop-again-4 (λ c. search needs) mul-with-phase element-copy-out-with-phase (λ c κs. search needs) mul-t148 element-set-from-m-7 loop-less-5 loop-again-5 (λ c. search needs) (λ c κs. search needs) mul-t152 element-set-from-m-8 loop-less-6 loop-again-6 loop-less-7 loop-again-7 (λ c κs. search needs) same-length returns)

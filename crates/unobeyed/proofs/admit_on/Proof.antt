@@ -1,8 +1,7 @@
--- `unobeyed::admit_on` meets its contract: each test is a row of the table, in its order. A CPU of the boot set is below 64, a place of the
--- table. Assumes nothing.
+-- `unobeyed::admit_on` meets its contract: each test is a row of the table, in its order. A CPU of the boot set is below 64, so it is the CPU at
+-- its place of the table. Assumes nothing.
 use Rattle.machine_state.specs.declared.Answer.the-variants.{Off, Bad}
 use Rattle.unobeyed.proofs.Laws.{applies, passes, negated, not-admitted, in-table, at-cpu}
-use Prim.Native.Nat.{_<_}
 use Rattle.cpu_set.specs.CpuSet.{member}
 use Rattle.rules.specs.Unobeyed.{isOn}
 use borrow.Author.Needs.{needs}
@@ -40,29 +39,21 @@ returns-3 c =
       notBad = λ q. absurd (not-admitted Bad q);
     }
 
-mul-admit-own : tie.Need-mul-admit-own
-mul-admit-own c =
-    let found = c .before in
-    let h : found .before .before .before .before .args .cpu < 64 = in-table _ _ _ (found .before .contains .ensures) (found .if2 .left) in
-    search needs
-
-array-copy-out-admit-own : tie.Need-array-copy-out-admit-own
-array-copy-out-admit-own c = let found = c .before in in-table _ _ _ (found .before .contains .ensures) (found .if2 .left)
-
 returns-4 : tie.Need-returns-4
 returns-4 c =
-    let good = c .before .before in
+    let good = c .before in
     let found = good .before in
     let on = found .before .before in
+    let inside = in-table _ _ _ (found .before .contains .ensures) (found .if2 .left) in
     record {
       follows = λ m p b s w.
           passes m _ _ _ (negated isOn _ _ _ _ p (on .before .is-on .ensures) (on .if1 .left))
           (passes m _ _ _ (negated (member _) _ _ _ _ b (found .before .contains .ensures) (found .if2 .left))
           (passes m _ _ _ (good .if3 .left)
-          (at-cpu m _ _ _ s (c .admit-own .ensures m w))));
-      inTable = λ q. in-table _ _ _ (found .before .contains .ensures) (found .if2 .left);
+          (at-cpu m _ _ _ inside s (c .admit-own .ensures m w))));
+      inTable = λ q. inside;
       notBad = λ q. good .if3 .left;
     }
 
 pub admit-on-spec : {M : Type 1} → statement M
-admit-on-spec = tie.close (tie.spec (λ c κs. search needs) returns (λ c κs. search needs) returns-2 returns-3 mul-admit-own array-copy-out-admit-own (λ c κs. search needs) returns-4)
+admit-on-spec = tie.close (tie.spec (λ c κs. search needs) returns (λ c κs. search needs) returns-2 returns-3 (λ c κs. search needs) returns-4)

@@ -10,14 +10,14 @@ use Rattle.unobeyed.proofs.admit_poll.Tie as tie
 
 returns : tie.Need-returns
 unfolding unobeyed
-returns c = record { follows = λ m p b k s w. applies m _ Off _ (negated isOn _ _ _ _ p (c .before .is-on .ensures) (c .if1 .taken)); placed = λ q. absurd (not-admitted Off q) }
+returns c = record { follows = λ m p b k w. applies m _ Off _ (negated isOn _ _ _ _ p (c .before .is-on .ensures) (c .if1 .taken)); placed = λ q. absurd (not-admitted Off q) }
 
 returns-2 : tie.Need-returns-2
 unfolding unobeyed
 returns-2 c =
     let on = c .before .before in
     record {
-      follows = λ m p b k s w.
+      follows = λ m p b k w.
           passes m _ _ _ (negated isOn _ _ _ _ p (on .before .is-on .ensures) (on .if1 .left))
           (applies m _ Idle _ (negated waits _ _ _ _ w (c .before .waits .ensures) (c .if2 .taken)));
       placed = λ q. absurd (not-admitted Idle q);
@@ -28,7 +28,7 @@ unfolding unobeyed Placed
 returns-3 c =
     let on = c .before .before in
     record {
-      follows = λ m p b k s w.
+      follows = λ m p b k w.
           passes m _ _ _ (negated isOn _ _ _ _ p (on .before .is-on .ensures) (on .if1 .left))
           (passes m _ _ _ (negated waits _ _ _ _ w (c .before .waits .ensures) (c .if2 .left))
           (none-left m));

@@ -9,4 +9,4 @@ unfolding deniedFor
 returns c = cc
 
 pub store-denied-spec : {M : Type 1} → statement M
-store-denied-spec = tie.close (tie.spec (λ c κs. search needs) (λ c κs. search needs) returns)
+store-denied-spec = tie.close (tie.spec (λ c κs. search needs) returns)
