@@ -30,10 +30,7 @@ use Rattle.rules.specs.Effects.{poolCost}
 use Rattle.rules.specs.Asking.{ask}
 use Rattle.rules.specs.Calls.{createCall, ends}
 use Rattle.machine_state.specs.declared.Answer.the-variants.{Code}
-use Rattle.unobeyed.specs.declared.Admission.{Admission}
-use Rattle.unobeyed.specs.declared.Admission.the-variants.{Admitted, Refused}
-use Rattle.unobeyed.specs.Admission.{admitted, Follows}
-use Rattle.create_rules.specs.Rows.{useCode, createRows, createCode}
+use Rattle.create_rules.specs.Rows.{useCode, createCode}
 
 pub no-pages : (pages used count : ℕ) → pages < used + 2 → true ≡ ltb pages (used + poolCost count)
 no-pages pages used count h = sym (lt-ltb pages (used + poolCost count) (omega arith))
@@ -102,12 +99,6 @@ module _ (caller : ℕ) (bytes : List ℕ) (m : Machine) (code : ℤ) (full : Bo
   unfolding useCode
   use-code t = used-is ∙ other-row (nameInUse (cellOf bytes .name) m) (busy caller (cellOf bytes) m) (noRoom (cellOf bytes) m) (sym test-is ∙ t)
 
--- an admission that follows Create's rows is its call: the refusal, or what comes where there is none
-pub create-follows : (r : Admission) (caller : ℕ) (bytes : List ℕ) (m : Machine) → Follows r (createRows caller bytes m) m
-    → admitted r (ask Create (freeId m) 0 (cellOf bytes) m) m ≡ createCall caller bytes m
-unfolding createCall
-create-follows r caller bytes m f = f (ask Create (freeId m) 0 (cellOf bytes) m)
-
 -- ---- the call, by the code that its rows give
 
 -- what a table gives, carried on, is what the table of the same rows carried on gives
@@ -132,10 +123,10 @@ module _ (caller : ℕ) (bytes : List ℕ) (m : Machine) where
   abbrev asked : Stepped
   asked = ask Create (freeId m) 0 (cellOf bytes) m
 
-  carried-create : (otherwise : Stepped) → carriedOut m otherwise (createCode caller bytes m) ≡ firstRule (createRows caller bytes m) otherwise
-  unfolding createCode carriedOut
-  carried-create otherwise =
-      carried-rows (carriedOut m otherwise)
+  carried-call : createCall caller bytes m ≡ carriedOut m asked (createCode caller bytes m)
+  unfolding createCall createCode carriedOut
+  carried-call =
+      sym (carried-rows (carriedOut m asked)
       ((someCellLocked m ⇒ EPERM)
       ∷ (tooLong bytes ⇒ E2BIG)
       ∷ (invalid bytes m ⇒ EINVAL)
@@ -143,11 +134,7 @@ module _ (caller : ℕ) (bytes : List ℕ) (m : Machine) where
       ∷ (busy caller (cellOf bytes) m ⇒ EBUSY)
       ∷ (noRoom (cellOf bytes) m ⇒ ENOMEM)
       ∷ [])
-      (pos 0)
-
-  carried-call : createCall caller bytes m ≡ carriedOut m asked (createCode caller bytes m)
-  unfolding createCall
-  carried-call = sym (carried-create asked)
+      (pos 0))
 
   pub create-refused : (n : ℕ) → createCode caller bytes m ≡ negsuc n → createCall caller bytes m ≡ ends (negsuc n) m
   unfolding carriedOut
@@ -187,21 +174,3 @@ module _ (caller : ℕ) (bytes : List ℕ) (m : Machine) where
 
     pub code-refuses : (ofZ w32 code ≡ 0 → ⊥) → createCall caller bytes m ≡ ends code m
     code-refuses n = carried-call ∙ ending n asked
-
-    -- an admission by the code follows Create's rows
-    pub admits-follow : ofZ w32 code ≡ 0 → Follows Admitted (createRows caller bytes m) m
-    unfolding admitted carriedOut
-    admits-follow zero otherwise = sym (ap (carriedOut m otherwise) (zero-code zero)) ∙ carried-create otherwise
-
-    pub refuses-follow : (ofZ w32 code ≡ 0 → ⊥) → Follows (Refused (Code code)) (createRows caller bytes m) m
-    unfolding admitted
-    refuses-follow n otherwise = sym (ending n otherwise) ∙ carried-create otherwise
-
-  -- a code is 0 or negative
-  pub code-not-positive : (n : ℕ) → createCode caller bytes m ≡ pos (suc n) → ⊥
-  code-not-positive n =
-      by-code (λ z. z ≡ pos (suc n) → ⊥) (λ e. apart e) (λ e. apart e) (λ e. apart e) (λ e. apart e) (λ e. apart e) (λ e. apart e)
-      (λ e. let z : _≡_ {A = ℕ} 0 (suc n) = cc in omega arith)
-    where
-      apart : {k : ℕ} → negsuc k ≡ pos (suc n) → ⊥
-      apart e = let z : _≡_ {A = ℕ} 0 1 = cc in omega arith

@@ -1,13 +1,11 @@
--- The rows of Create's table in `rules`, as the code that they give and as lists that an admission follows; `Laws` ties both to Create's call.
+-- The rows of Create's table in `rules`, as the code that they give; `Laws` ties it to Create's call.
 use mathlib.Core.List.{List, [], _∷_}
 use Prim.Native.Nat.{ℕ}
 use lib.IntN.{ℤ, pos}
-use Rattle.base.specs.Rules.{Refusal, firstRule, _⇒_, EPERM, E2BIG, ENOMEM, EBUSY, EEXIST, EINVAL}
+use Rattle.base.specs.Rules.{firstRule, _⇒_, EPERM, E2BIG, ENOMEM, EBUSY, EEXIST, EINVAL}
 use Rattle.cell_record.specs.CellRecord.{cellOf}
 use Rattle.machine_state.specs.declared.Machine.{Machine}
-use Rattle.machine_state.specs.declared.Stepped.{Stepped}
 use Rattle.rules.specs.Create.{someCellLocked, tooLong, invalid, nameInUse, busy, noRoom}
-use Rattle.rules.specs.Calls.{ends}
 
 -- the code where the name, or a CPU or a region that the new cell wants, is in use, and 0 where none is
 unfoldable pub useCode : ℕ → List ℕ → Machine → ℤ
@@ -25,13 +23,3 @@ createCode caller bytes m =
     ∷ (noRoom (cellOf bytes) m ⇒ ENOMEM)
     ∷ [])
     (pos 0)
-
-abbrev pub createRows : ℕ → List ℕ → Machine → List (Refusal Stepped)
-createRows caller bytes m =
-    (someCellLocked m ⇒ ends EPERM m)
-    ∷ (tooLong bytes ⇒ ends E2BIG m)
-    ∷ (invalid bytes m ⇒ ends EINVAL m)
-    ∷ (nameInUse (cellOf bytes .name) m ⇒ ends EEXIST m)
-    ∷ (busy caller (cellOf bytes) m ⇒ ends EBUSY m)
-    ∷ (noRoom (cellOf bytes) m ⇒ ends ENOMEM m)
-    ∷ []

@@ -11,21 +11,18 @@ ghost use Rattle.cell_record.specs.CellRecord.{cellOf, cellRegions};
 ghost use Rattle.machine_state.specs.declared.Machine.{Machine};
 ghost use Rattle.rules.specs.Create.{conflict as conflict-of, conflicts as conflicts-of, noRoom};
 ghost use Rattle.rules.specs.Effects.{poolCost};
-ghost use Rattle.unobeyed.specs.Admission.{Follows};
-ghost use Rattle.create_rules.specs.Rows.{useCode, createRows, createCode};
+ghost use Rattle.create_rules.specs.Rows.{useCode, createCode};
 use base::E2BIG;
 use base::EBUSY;
 use base::EEXIST;
 use base::EINVAL;
 use base::ENOMEM;
 use base::EPERM;
-use machine_state::Answer;
 use machine_state::Cell;
 use machine_state::CommRegion;
 use machine_state::MAX_CELLS;
 use regions::MemRegion;
 use system_record::SystemConfig;
-use unobeyed::Admission;
 
 // Whether two regions of different cells may not both be: they meet, and are not both shared.
 fn conflict(r: MemRegion, s: MemRegion) -> bool
@@ -164,33 +161,4 @@ pub fn refusal(
         return ENOMEM;
     }
     code
-}
-
-// Create's refusals, in their order.
-pub fn admit_create(
-    system: SystemConfig,
-    pool_used: u32,
-    live_ids: u16,
-    root_cpus: u64,
-    cells: [Cell; MAX_CELLS],
-    comms: [CommRegion; MAX_CELLS],
-    caller: u64,
-    record: &[u8],
-) -> Admission
-    ensures { λ r. ⌜ ((m : Machine) → m .system ≡ system → m .«pool_used» ≡ «pool_used» → m .«live_ids» ≡ «live_ids» → m .«root_cpus» ≡ «root_cpus» → m .cells ≡ cells → m .comms ≡ comms → Follows r (createRows caller (now («record» .entry)) m) m) ⌝ }
-{
-    let code = refusal(
-        system,
-        pool_used,
-        live_ids,
-        root_cpus,
-        cells,
-        comms,
-        caller,
-        record,
-    );
-    if code == 0 {
-        return Admission::Admitted;
-    }
-    Admission::Refused(Answer::Code(code))
 }

@@ -69,13 +69,11 @@ pub fn is_disable(kind: CallKind) -> bool
 pub fn figures_of(record: &[u8]) -> Figures
     ensures { λ r. ⌜ r ≡ figuresOf (cellOf (now («record» .entry))) ⌝ }
 {
-    let new = cell_record::cell_of(record);
-    let regions = new.regions;
     Figures {
-        cpus: new.cpus,
-        region_count: new.region_count,
-        mapped: region_table::has_comm(regions, new.region_count),
-        passive: new.passive,
+        cpus: fields::u64_at(record, 40),
+        region_count: fields::u16_at(record, 48) as usize,
+        mapped: cell_record::has_comm(record),
+        passive: fields::u16_at(record, 6) % 2 == 1,
     }
 }
 

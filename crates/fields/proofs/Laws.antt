@@ -3,7 +3,7 @@
 use mathlib.Core.Path.{_≡_, refl, sym, _∙_, subst}
 use mathlib.Core.Bool.{Bool, true, false, _&&_}
 use mathlib.Core.List.{List, [], _∷_, _++_}
-use Prim.Native.Nat.{ℕ, zero, suc, _+_, _-_, _*_, _^_, _<_, _≤_}
+use Prim.Native.Nat.{ℕ, zero, suc, _+_, _-_, _*_, _^_, _%_, _<_, _≤_}
 use native.Mathlib.Nat.{zero-add, suc-add, add-assoc, mul-add, mul-assoc, mul-comm, mul-zero, one-mul, pow-suc}
 use native.Mathlib.Numerals.{add-one}
 use native.Mathlib.Omega.{arith}
@@ -91,3 +91,34 @@ pub name-parts : (bs : List ℕ) (n : ℕ) (z : Bool) → n ≡ leading bs → z
     → (leb 1 n && leb n 31 && z) ≡ isName bs
 unfolding isName
 name-parts bs n z e f = rw (f, part-rest, e)
+
+-- a field of w bytes is below 256 ^ w
+pub field-bound : (w at : ℕ) (r : List ℕ) → ((i : ℕ) → getD r i 0 < 256) → field w at r < 256 ^ w
+unfolding field littleEndian
+field-bound zero at r b = omega arith
+field-bound (suc w) at r b =
+    let one : field 1 at r < 256 = rw (field-byte at r) (b at) in
+    let rest = field-bound w (at + 1) r b in
+    let e : field (1 + w) at r ≡ field 1 at r + 256 * field w (at + 1) r = field-split 1 w at r in
+    subst (λ (n : ℕ). field n at r < 256 ^ suc w) (sym (suc-one w)) (rw (e, pow-suc, mul-comm (256 ^ w) 256) (below (field 1 at r) (field w (at + 1) r) (256 ^ w) one rest))
+  where
+    suc-one : (n : ℕ) → suc n ≡ 1 + n
+    suc-one n = omega arith
+
+    below : (x y n : ℕ) → x < 256 → y < n → x + 256 * y < 256 * n
+    below x y n h k = omega arith
+
+-- where fewer than 8 bytes are left, the first and the rest
+pub few-left : (at : ℕ) (r : List ℕ) (low high : ℕ) → ((i : ℕ) → getD r i 0 < 256) → length r ≤ at + 8 → low ≡ getD r at 0 → high ≡ field 8 (at + 1) r
+    → low + 256 * (high % 256 ^ 7) ≡ field 8 at r
+few-left at r low high b h l e =
+    let first : field 8 at r ≡ field 1 at r + 256 * field 7 (at + 1) r = field-split 1 7 at r in
+    let last : field 8 (at + 1) r ≡ field 7 (at + 1) r + 256 ^ 7 * field 1 ((at + 1) + 7) r = field-split 7 1 (at + 1) r in
+    let past : length r ≤ (at + 1) + 7 = omega arith in
+    let none : 0 ≡ field 1 ((at + 1) + 7) r = field-past 1 ((at + 1) + 7) r past in
+    let bound : field 7 (at + 1) r < 256 ^ 7 = field-bound 7 (at + 1) r b in
+    let byte : field 1 at r ≡ getD r at 0 = field-byte at r in
+    sum low high (field 1 at r) (field 7 (at + 1) r) (field 1 ((at + 1) + 7) r) (l ∙ sym byte) (e ∙ last) none bound ∙ sym first
+  where
+    sum : (low high x y z : ℕ) → low ≡ x → high ≡ y + 256 ^ 7 * z → 0 ≡ z → y < 256 ^ 7 → low + 256 * (high % 256 ^ 7) ≡ x + 256 * y
+    sum low high x y z l h n b = omega arith

@@ -52,12 +52,16 @@ pub fn u32_at(s: &[u8], at: usize) -> u32
     low + 0x1_0000 * high
 }
 
-// The u64 at an offset.
+// The u64 at an offset. Where fewer than its 8 bytes are left it goes byte by byte.
 pub fn u64_at(s: &[u8], at: usize) -> u64
     ensures { λ r. ⌜ r ≡ u64 at (now (s .entry)) ⌝ }
 {
     if s.len() <= at {
         return 0;
+    }
+    if s.len() - at < 8 {
+        let rest = u64_at(s, at + 1) % 0x100_0000_0000_0000;
+        return u8_at(s, at) as u64 + 0x100 * rest;
     }
     let low = u32_at(s, at) as u64;
     let high = u32_at(s, at + 4) as u64;

@@ -1,17 +1,25 @@
--- `effects::figures_of` meets its contract: it is the definition, of the record's values. Assumes nothing.
-use mathlib.Core.Path.{ap, _∙_}
-use Rattle.cell_record.specs.declared.CellConfig.{CellConfig}
+-- `effects::figures_of` meets its contract: each figure is the record's value of that name. Assumes nothing.
+use mathlib.Core.Path.{ap}
+use Prim.Native.Nat.{ℕ, _%_}
+use lib.Dec.{eqb}
+use Rattle.cell_record.specs.CellRecord.{cellOf}
 use Rattle.effects.specs.Parts.{figuresOf}
 use borrow.Author.Needs.{needs}
 use Rattle.effects.proofs.figures_of.Statement.{statement}
 use Rattle.effects.proofs.figures_of.Tie as tie
 
 returns : tie.Need-returns
-unfolding figuresOf
+unfolding figuresOf cellOf
 returns c =
-    let new = c .before .before .cell-of .result in
-    (λ i. record { cpus = new .cpus; «region_count» = new .«region_count»; mapped = c .has-comm .ensures i; passive = new .passive })
-    ∙ ap figuresOf (c .before .before .cell-of .ensures)
+    let comm = c .before in
+    let count = comm .before in
+    let cpus = count .before in
+    λ i. record {
+      cpus = cpus .u64-at .ensures i;
+      «region_count» = count .u16-at .ensures i;
+      mapped = comm .has-comm .ensures i;
+      passive = eqb (c .u16-at2 .ensures i % 2) 1;
+    }
 
 pub figures-of-spec : {M : Type 1} → statement M
-figures-of-spec = tie.close (tie.spec (λ c κs. search needs) (λ c κs. search needs) returns)
+figures-of-spec = tie.close (tie.spec (λ c κs. search needs) (λ c κs. search needs) (λ c. search needs) (λ c κs. search needs) (λ c κs. search needs) returns)
