@@ -1,15 +1,17 @@
 -- The set of live IDs with one more and with one less: by the members of each number below 16. Assumes nothing.
 use mathlib.Core.Bool.{Bool, false, not, _&&_, _||_, or-comm, and-comm}
 use mathlib.Core.Path.{_≡_, refl, sym, ap, ap₂, _∙_}
-use Prim.Native.Nat.{ℕ, zero, suc, _+_, _%_, _^_, _<_, _≤_}
+use Prim.Native.Nat.{ℕ, zero, suc, _+_, _-_, _%_, _^_, _<_, _≤_}
 use native.Mathlib.Decide.{ℕ-discrete}
 use native.Mathlib.Omega.{arith}
 use borrow.Author.Tests.{lt-ltb, eq-eqb, ne-eqb}
+use lib.Bits.{bitOr, or-lt}
 use lib.Dec.{eqb}
 use Rattle.cpu_set.specs.CpuSet.{bit, member, numberOf, union, without}
-use Rattle.cpu_set.proofs.Laws.{low-bits, bit-number, member-setOf}
+use Rattle.cpu_set.proofs.Laws.{low-bits, bit-number, member-or, member-setOf}
 use Rattle.rules.specs.State.{hasId, idsWhere}
 use Rattle.rules.specs.Effects.{addId, dropId}
+use Rattle.comms.proofs.Zeros.{complement-bit}
 
 -- an ID is in a set where its bit is
 pub has-bit : (ids k : ℕ) → k < 16 → hasId ids k ≡ bit k ids
@@ -56,6 +58,15 @@ none (suc n) = none n
 
 pub zero-member : (k : ℕ) → k < 64 → member k 0 ≡ false
 zero-member k l = ap (member k) (sym (none 64)) ∙ member-setOf (λ i. false) k l
+
+-- the IDs that are free, root's aside: the bits of the complement
+pub free-bit : (ids k : ℕ) → ids < 2 ^ 16 → k < 16 → bit k ((2 ^ 16 - 1) - bitOr ids 1) ≡ not (eqb k 0 || hasId ids k)
+free-bit ids k fits h =
+    complement-bit 16 (bitOr ids 1) k (or-lt 16 ids 1 fits (omega arith)) h
+    ∙ ap not
+    (sym (has-bit (bitOr ids 1) k h) ∙ sym (member-low (bitOr ids 1) k h) ∙ member-or k ids 1
+    ∙ ap₂ (λ (x y : Bool). x || y) (member-low ids k h) (power-member 0 k (omega arith) (omega arith))
+    ∙ or-comm (hasId ids k) (eqb k 0))
 
 -- a set of 64 members, cut to its first 16
 module _ (ids one id : ℕ) (is : (k : ℕ) → k < 64 → member k one ≡ eqb k id) where

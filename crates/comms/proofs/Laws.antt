@@ -1,7 +1,8 @@
 -- Loops that go through the cells' IDs from the highest down: what is found at or above i, one ID a turn. Assumes nothing.
 use mathlib.Core.Path.{_≡_, refl, sym, ap, subst, _∙_}
 use mathlib.Core.Bool.{Bool, true, false, _||_}
-use Prim.Native.Nat.{ℕ, zero, suc, _-_, _≤_, _<_}
+use Prim.Native.Nat.{ℕ, zero, suc, _+_, _-_, _≤_, _<_}
+use native.Mathlib.Decide.{ℕ-discrete}
 use native.Mathlib.Omega.{arith}
 use borrow.Author.Tests.{lt-ltb, le-ltb}
 use Rattle.base.specs.Lists.{any, from}
@@ -65,6 +66,18 @@ module _ (p : ℕ → Bool) where
 
   pub any-all : (i : ℕ) → 1 ≤ i → i ≤ 1 → anyFrom p i ≡ any p cellIds
   any-all i l h = let e : i ≡ 1 = omega arith in ap (anyFrom p) e
+
+-- the number that passes the test while none before it does, or 16, is the first
+pub first-is : (p : ℕ → Bool) (n i r : ℕ) → i + n ≡ maxCells → i ≤ r → r ≤ maxCells → ((k : ℕ) → i ≤ k → k < r → p k ≡ false)
+    → (r < maxCells → p r ≡ true) → r ≡ first p (from i n)
+unfolding first from
+first-is p zero i r e l h below here = omega arith
+first-is p (suc n) i r e l h below here =
+    go (ℕ-discrete i r) (λ m. first-is p n (suc i) r (omega arith) m h (λ k b. below k (omega arith)) here)
+  where
+    go : Dec (i ≡ r) → (suc i ≤ r → r ≡ first p (from (suc i) n)) → r ≡ first p (from i (suc n))
+    go (yes q) later = rw (ap p q ∙ here (omega arith), first) (sym q)
+    go (no q) later = rw (below i (omega arith) (omega arith), first) (later (omega arith))
 
 -- a store to a word that is neither 0 nor 1 is one to the state
 pub store-state : (word value : ℕ) (c : CommRegion) → (word ≡ 0 → ⊥) → (word ≡ 1 → ⊥) → withState value c ≡ storeWord word value c

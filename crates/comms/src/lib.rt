@@ -58,17 +58,11 @@ pub fn choose(b: bool, x: usize, y: usize) -> usize
     if b { x } else { y }
 }
 
-// The smallest free ID from 1, or 16.
+// The smallest free ID from 1, or 16: the lowest bit that is clear, with root's counted as set.
 pub fn free_id(live_ids: u16) -> usize
     ensures { λ r. ⌜ ((m : Machine) → m .«live_ids» ≡ «live_ids» → r ≡ freeId m) ⌝ }
 {
-    let mut found = MAX_CELLS;
-    let mut i = MAX_CELLS;
-    while 1 < i {
-        i -= 1;
-        found = choose(!is_live(live_ids, i as u64), i, found);
-    }
-    found
+    u16::trailing_zeros(!(live_ids | 1)) as usize
 }
 
 // Whether a state is final: shut down or failed.

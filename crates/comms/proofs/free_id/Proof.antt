@@ -1,43 +1,48 @@
--- `comms::free_id` meets its contract. The loop's invariant: the number is the first free ID from i up. Assumes nothing.
-use mathlib.Core.Path.{_≡_, sym, ap, _∙_}
-use mathlib.Core.Bool.{Bool, not}
-use Prim.Native.Nat.{ℕ, _-_, _<_, _≤_}
+-- `comms::free_id` meets its contract: the lowest ID that is not in the set, root's aside, is the first free one. Assumes nothing.
+use mathlib.Core.Bool.{Bool, true, not, _||_}
+use mathlib.Core.Path.{_≡_, refl, sym, ap, _∙_}
+use Prim.Native.Nat.{ℕ, zero, suc, _-_, _^_, _<_, _≤_}
+use native.Mathlib.Nat.{lt-of-le-of-lt}
 use native.Mathlib.Omega.{arith}
-use Rattle.machine_state.specs.declared.Machine.{Machine}
-use Rattle.rules.specs.State.{hasId, live}
+use lib.Bits.{bitOr}
+use lib.Count.{trailingZeros, trailing-le}
+use borrow.Author.Tests.{ne-eqb}
+use Rattle.base.proofs.Tests.{holds, fails}
+use Rattle.cpu_set.specs.CpuSet.{bit}
+use Rattle.rules.specs.State.{hasId, first, cellIds}
 use Rattle.rules.specs.Create.{freeId}
-use Rattle.comms.proofs.Laws.{firstFrom, first-start, first-turn, first-all}
-use borrow.Author.Needs.{needs}
+use Rattle.comms.proofs.Ids.{free-bit}
+use Rattle.comms.proofs.Laws.{first-is}
+use Rattle.comms.proofs.Zeros.{trailing-clear, trailing-set}
 use Rattle.comms.proofs.free_id.Statement.{statement}
 use Rattle.comms.proofs.free_id.Tie as tie
 
-abbrev free : Machine → ℕ → Bool
-free m id = not (live m id)
+cast-result : tie.Need-cast-result
+cast-result c = record { fits = lt-of-le-of-lt (trailing-le 16 _) (omega arith) }
 
-abbrev Inv-loop : tie.InvT-loop
-Inv-loop ids found₀ i₀ found i = (1 ≤ i) × (i ≤ 16) × ((m : Machine) → m .«live_ids» ≡ ids → found ≡ firstFrom (free m) i)
+module _ (ids : ℕ) (fits : ids < 2 ^ 16) where
+  abbrev unused : ℕ
+  unused = (2 ^ 16 - 1) - bitOr ids 1
 
-abbrev μ-loop : tie.MeasureT-loop
-μ-loop ids found₀ i₀ found i = i
+  free : (k : ℕ) → 1 ≤ k → k < 16 → bit k unused ≡ not (hasId ids k)
+  free k l h = free-bit ids k fits h ∙ ap (λ (b : Bool). not (b || hasId ids k)) (ne-eqb k 0 (λ e. omega arith))
 
-loop-holds : tie.Need-loop-holds Inv-loop μ-loop
-loop-holds c = (search needs, search needs, (λ m e. first-start (free m)))
+  not-root : (r : ℕ) → (r < 16 → bit r unused ≡ true) → 1 ≤ r
+  not-root zero here = absurd (fails (free-bit ids 0 fits (omega arith)) (holds (here (omega arith))))
+  not-root (suc r) here = omega arith
 
-loop-again : tie.Need-loop-again Inv-loop μ-loop
-loop-again c =
-    let l = c .before .before .before .loop in
-    let low : 1 < l .i = omega arith in
-    let high : l .i ≤ 16 = omega arith in (
-      omega arith,
-      omega arith,
-      (λ m e. c .choose .ensures
-          ∙ first-turn (free m) (l .i) low high _ _ (l .inv .2 m e)
-          (ap not (c .before .is-live .ensures ∙ ap (λ (ids : ℕ). hasId ids (l .i - 1)) (sym e)))),
-    )
+  found : trailingZeros 16 unused ≡ first (λ id. not (hasId ids id)) cellIds
+  found =
+      let here = trailing-set 16 unused in
+      let low = not-root (trailingZeros 16 unused) here in
+      let high = trailing-le 16 unused in
+      first-is (λ id. not (hasId ids id)) 15 1 (trailingZeros 16 unused) refl low high
+      (λ k l h. sym (free k l (omega arith)) ∙ trailing-clear 16 unused k h)
+      (λ h. sym (free (trailingZeros 16 unused) low h) ∙ here h)
 
-returns : tie.Need-returns Inv-loop μ-loop
+returns : tie.Need-returns
 unfolding freeId
-returns c = let l = c .before .loop in λ m e. l .inv .2 m e ∙ first-all (free m) (l .i) (l .inv .0) (omega arith)
+returns c = λ m e. found (c .args .live-ids) (c .fits .live-ids .fits) ∙ ap (λ (ids : ℕ). first (λ id. not (hasId ids id)) cellIds) (sym e)
 
 pub free-id-spec : {M : Type 1} → statement M
-free-id-spec = tie.close (tie.spec Inv-loop μ-loop loop-holds (λ c. search needs) (λ c κs. search needs) (λ c κs. search needs) (λ c. search needs) loop-again returns)
+free-id-spec = tie.close (tie.spec cast-result returns)
