@@ -1,6 +1,6 @@
-// Asks the page questions, the communication region and the detection leaves after the lines of a
-// script, and prints each line with the answer that came. The file `stdin` is the script, with the
-// answer that document 01 gives to each line; `stdout` is the same text and a count.
+// Asks the page questions, the communication region, the detection leaves and two counts of bits after
+// the lines of a script, and prints each line with the answer that came. The file `stdin` is the
+// script, with the answer that document 01 gives to each line; `stdout` is the same text and a count.
 //
 //   record NAME = BASE WORDS       a record (test_support, names.rt)
 //   boot @NAME                     starts a machine from a system record
@@ -11,6 +11,8 @@
 //   word CELL WORD                 a word of a cell's communication region
 //   read CELL OFFSET               a byte of it
 //   leaf NUMBER EAX EBX ECX EDX    the registers of a leaf, and those of the processor itself
+//   count SET                      how many CPUs a set of CPUs has
+//   free SET                       the smallest free ID where a set of 16 bits is in use; 16: none
 //   # ..                           a remark
 //
 // Until the first `boot` there is no started machine. The numbers of a question are decimal, or

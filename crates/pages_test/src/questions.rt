@@ -15,6 +15,8 @@ pub(crate) fn is_question(s: &[u8]) -> bool {
         | check::same(w, b"word")
         | check::same(w, b"read")
         | check::same(w, b"leaf")
+        | check::same(w, b"count")
+        | check::same(w, b"free")
 }
 
 // The number of word `k`.
@@ -75,7 +77,18 @@ pub(crate) fn answer_to(m: Machine, s: &[u8], out: &mut [u8]) -> usize {
     if is_leaf(s) {
         return leaf(s, out);
     }
+    if has_one(s, b"count") {
+        return show::put_number(cpu_set::count(a) as u64, out, 0);
+    }
+    if has_one(s, b"free") & (a <= 0xffff) {
+        return show::put_number(comms::free_id(number16(s, 1)) as u64, out, 0);
+    }
     0
+}
+
+// The low 16 bits of the number of word `k`.
+fn number16(s: &[u8], k: usize) -> u16 {
+    (number(s, k) % 0x1_0000) as u16
 }
 
 // The low half of the number of word `k`.

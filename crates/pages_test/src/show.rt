@@ -15,12 +15,17 @@ fn put_hex(v: u64, out: &mut [u8], n: usize) -> usize {
     put_all(out, at, &digits[..k])
 }
 
+// A number in decimal digits, behind the first `n` bytes.
+pub(crate) fn put_number(v: u64, out: &mut [u8], n: usize) -> usize {
+    let mut digits = [0u8; 20];
+    let k = io::decimal(v, &mut digits);
+    put_all(out, n, &digits[..k])
+}
+
 // `cell` and its ID.
 fn put_cell(id: usize, out: &mut [u8]) -> usize {
-    let mut digits = [0u8; 20];
-    let k = io::decimal(id as u64, &mut digits);
     let at = put_all(out, 0, b"cell ");
-    put_all(out, at, &digits[..k])
+    put_number(id as u64, out, at)
 }
 
 pub(crate) fn owner(o: Owner, out: &mut [u8]) -> usize {
