@@ -13,6 +13,7 @@ ghost use Rattle.rules.specs.Effects.{counted, callCounter};
 ghost use Rattle.cpu_table.specs.CpuTable.{cpuIndex};
 ghost use Rattle.comms.specs.Comms.{cellIndex};
 use base::EINVAL;
+use base::ENOENT;
 use base::EPERM;
 use cpu_table::CALL_COUNTER;
 use cpu_table::CpuChange;
@@ -63,7 +64,7 @@ pub fn get_state(live_ids: u16, w: CommRegion, id: u64) -> Answer
         return Answer::Code(0);
     }
     if !comms::is_live(live_ids, id) {
-        return Answer::Code(EINVAL);
+        return Answer::Code(ENOENT);
     }
     if (state == RUNNING) | (state == RUNNING_LOCKED) {
         return Answer::Code(0);

@@ -178,7 +178,7 @@ saidLines (s ∷ ss) = s .line ∷ saidLines ss
 unfoldable pub rowHolds : Row → Bool
 rowHolds r = logHolds (r .from) (r .log) && all (claimHolds (r .from) (after step (r .from) (saidLines (r .log)))) (r .claims)
 
--- the starred lines
+-- the starred lines, and the case that C-12 adds
 unfoldable pub starred : List Row
 starred =
     -- "Create on CPU 0: 1; pool used 14; Get State 1 gives 1"
@@ -222,6 +222,8 @@ starred =
     }
     -- "State 7: Get State gives -22, and the cell is still asked"
     ∷ record { from = started; log = (logStore 2 2 7 ▷ Done) ∷ (logCall 0 6 1 0 ▷ Code EINVAL) ∷ (logCall 0 4 1 0 ▷ Wait 1) ∷ []; claims = MessageTo 1 1 ∷ [] }
+    -- C-12: "an absent ID gives -2 .. add a case for ID 9"
+    ∷ record { from = started; log = (logCall 0 6 9 0 ▷ Code ENOENT) ∷ []; claims = TableKept ∷ [] }
     -- "Raw counter 0x80000000 reads 0"
     ∷ record { from = halfRound; log = (logCall 0 7 1 1000 ▷ Code (pos 0)) ∷ []; claims = [] }
     ∷ []

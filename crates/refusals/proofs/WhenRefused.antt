@@ -79,7 +79,7 @@ unfolding getInfo
 info-negative type m = info-rows (eqb type 0) (eqb type 1) (eqb type 2) (eqb type 3) (eqb type 4) _ _ _ _ _ ∙ above-4 type
 
 state-rows : (root gone a b c d : Bool)
-    → isNegative (Code (firstRule ((root ⇒ pos 0) ∷ (gone ⇒ EINVAL) ∷ (a || b ⇒ pos 0) ∷ (c ⇒ pos 1) ∷ (d ⇒ pos 2) ∷ []) EINVAL))
+    → isNegative (Code (firstRule ((root ⇒ pos 0) ∷ (gone ⇒ ENOENT) ∷ (a || b ⇒ pos 0) ∷ (c ⇒ pos 1) ∷ (d ⇒ pos 2) ∷ []) EINVAL))
     ≡ (not root && (gone || not (a || b || c || d)))
 unfolding firstRule isNegative
 state-rows true gone a b c d = refl

@@ -43,7 +43,7 @@ targetRefused id m = eqb id rootId || not (live m id)
 abbrev pub infoRefused : ℕ → Bool
 infoRefused type = ltb 4 type
 
--- Get State: "other state or no such cell -22"; root has state 0
+-- Get State: "no such cell -2; other state -22", as C-12 amends it; root has state 0
 abbrev pub stateRefused : ℕ → Machine → Bool
 stateRefused id m = not (eqb id rootId) && (not (live m id) || ltb 3 (stateAt m id))
 

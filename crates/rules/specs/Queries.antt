@@ -5,7 +5,7 @@ use Prim.Native.Nat.{ℕ, _-_, _%_, _^_}
 use lib.Dec.{leb, eqb}
 use lib.IntN.{ℤ, pos}
 use lib.ListN.{getD}
-use Rattle.base.specs.Rules.{firstRule, _⇒_, EPERM, EINVAL}
+use Rattle.base.specs.Rules.{firstRule, _⇒_, EPERM, ENOENT, EINVAL}
 use Rattle.cpu_set.specs.CpuSet.{member, count}
 use Rattle.machine_state.specs.declared.Machine.{Machine}
 use Rattle.rules.specs.State.{rootId, bootCpus, cpuAt, live, stateAt, running, runningLocked, shutDown, failed}
@@ -26,12 +26,12 @@ getInfo type m =
     ∷ [])
     EINVAL
 
--- "6 Get State | state 0, 1 give 0; 2 gives 1; 3 gives 2; root 0; other state or no such cell -22"
+-- "6 Get State | state 0, 1 give 0; 2 gives 1; 3 gives 2; root 0; no such cell -2; other state -22", as C-12 amends it (docs/AMENDMENTS.md)
 unfoldable pub getState : ℕ → Machine → ℤ
 getState id m =
     firstRule
     ((eqb id rootId ⇒ pos 0)
-    ∷ (not (live m id) ⇒ EINVAL)
+    ∷ (not (live m id) ⇒ ENOENT)
     ∷ (eqb (stateAt m id) running || eqb (stateAt m id) runningLocked ⇒ pos 0)
     ∷ (eqb (stateAt m id) shutDown ⇒ pos 1)
     ∷ (eqb (stateAt m id) failed ⇒ pos 2)
