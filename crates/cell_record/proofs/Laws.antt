@@ -13,7 +13,7 @@ use Rattle.region_table.specs.Tables.{maxRegions, regionsOf}
 use Rattle.region_table.proofs.Laws.{table-regions}
 use Rattle.system_record.specs.declared.SystemConfig.{SystemConfig}
 use Rattle.system_record.specs.SystemRecord.{bootRegions}
-use Rattle.cell_record.specs.CellRecord.{cellOf, cellRegions, cellRegionOk}
+use Rattle.cell_record.specs.CellRecord.{cellOf, cellRegions, regionRules}
 
 pub record-regions : (r : List ℕ) → cellRegions (cellOf r) ≡ regionsOf 56 (min (u16 48 r) maxRegions) r
 unfolding cellOf
@@ -31,14 +31,12 @@ inside ok false lies e = absurd (fails e tt)
 module _ (boot : SystemConfig) (r : MemRegion) (p f c k l s : Bool) (placed-is : p ≡ placed r) (flags-are : f ≡ flagsOk r) (comm-is : c ≡ commOk r)
     (clear-is : k ≡ clearOf (boot .hypervisor .start) (boot .hypervisor .size) r) (loadable-is : l ≡ loadable r) (shared-is : s ≡ shared r) where
   -- one that is neither loadable nor shared
-  pub region-free : not (l || s) ≡ true → (p && f && c && k) ≡ cellRegionOk boot r
-  unfolding cellRegionOk
+  pub region-free : not (l || s) ≡ true → (p && f && c && k) ≡ regionRules boot r
   region-free n =
       anywhere (p && f && c && k) (l || s) (any (insidePhys r) (bootRegions boot)) n
       ∙ (λ i. placed-is i && flags-are i && comm-is i && clear-is i && (not (loadable-is i || shared-is i) || any (insidePhys r) (bootRegions boot)))
 
-  pub region-tied : (lies : Bool) → lies ≡ any (insidePhys r) (bootRegions boot) → not (l || s) ≡ false → (p && f && c && k && lies) ≡ cellRegionOk boot r
-  unfolding cellRegionOk
+  pub region-tied : (lies : Bool) → lies ≡ any (insidePhys r) (bootRegions boot) → not (l || s) ≡ false → (p && f && c && k && lies) ≡ regionRules boot r
   region-tied lies e n =
       inside (p && f && c && k) (l || s) lies n
       ∙ (λ i. placed-is i && flags-are i && comm-is i && clear-is i && (not (loadable-is i || shared-is i) || e i))

@@ -10,7 +10,7 @@ use Rattle.base.specs.Rules.{firstRule, E2BIG, EINVAL}
 use Rattle.cpu_set.specs.CpuSet.{isEmpty}
 use Rattle.fields.specs.Fields.{u16, u64, zeros, isName, padded}
 use Rattle.regions.specs.declared.MemRegion.{MemRegion}
-use Rattle.regions.specs.Regions.{placed, flagsOk, commOk, comm, loadable, shared, clearOf, insidePhys, apart}
+use Rattle.regions.specs.Regions.{placed, flagsOk, commOk, comm, loadable, shared, sharedAndExecutable, clearOf, insidePhys, apart}
 use Rattle.region_table.specs.Tables.{maxRegions, tableOf}
 use Rattle.system_record.specs.declared.SystemConfig.{SystemConfig}
 use Rattle.system_record.specs.SystemRecord.{bootRegions}
@@ -43,37 +43,48 @@ cellForm r =
     && zeros (part 50 6 r)
     && eqb (length r) (56 + 32 * u16 48 r)
 
--- a cell's region: the rules of a region; "None (comm aside) overlaps hypervisor memory"; "A loadable or shared region lies inside a
--- single boot region"
-unfoldable pub cellRegionOk : SystemConfig → MemRegion → Bool
-cellRegionOk boot r =
+-- a cell's region, as document 01 has it: the rules of a region; "None (comm aside) overlaps hypervisor memory"; "A loadable or shared region
+-- lies inside a single boot region"
+abbrev pub regionRules : SystemConfig → MemRegion → Bool
+regionRules boot r =
     placed r
     && flagsOk r
     && commOk r
     && clearOf (boot .hypervisor .start) (boot .hypervisor .size) r
     && (not (loadable r || shared r) || any (insidePhys r) (bootRegions boot))
 
+-- a cell's region now. C-17: "A region both shared and executable .. Such a record now gives -22"
+unfoldable pub cellRegionOk : SystemConfig → MemRegion → Bool
+cellRegionOk boot r = regionRules boot r && not (sharedAndExecutable r)
+
 -- the regions of a cell: those that the count names
 abbrev pub cellRegions : CellConfig → List MemRegion
 cellRegions c = take (c .«region_count») (c .regions)
 
--- the rules on the values: the name, "no CPU", the regions, and "Without one [a comm region] the cell must be passive"
-unfoldable pub cellValid : SystemConfig → CellConfig → Bool
-cellValid boot c =
+-- the rules on the values, with the rule for a region: the name, "no CPU", the regions, and "Without one [a comm region] the cell must be
+-- passive"
+abbrev pub validBy : (MemRegion → Bool) → CellConfig → Bool
+validBy regionOk c =
     isName (c .name)
     && not (isEmpty (c .cpus))
-    && all (cellRegionOk boot) (cellRegions c)
+    && all regionOk (cellRegions c)
     && pairwise apart (cellRegions c)
     && (any comm (cellRegions c) || c .passive)
 
--- what the record itself makes Create answer: "-7 record longer than 568; -22 rule broken, no CPU"
-unfoldable pub cellAnswer : SystemConfig → List ℕ → ℤ
-cellAnswer boot r =
+unfoldable pub cellValid : SystemConfig → CellConfig → Bool
+cellValid boot c = validBy (cellRegionOk boot) c
+
+-- what the record itself makes Create answer, with the rules on the values: "-7 record longer than 568; -22 rule broken, no CPU"
+abbrev pub answerBy : (CellConfig → Bool) → List ℕ → ℤ
+answerBy valid r =
     firstRule
     (record { when = ltb longest (length r); code = E2BIG }
-    ∷ record { when = not (cellForm r && cellValid boot (cellOf r)); code = EINVAL }
+    ∷ record { when = not (cellForm r && valid (cellOf r)); code = EINVAL }
     ∷ [])
     (pos 0)
+
+unfoldable pub cellAnswer : SystemConfig → List ℕ → ℤ
+cellAnswer boot r = answerBy (cellValid boot) r
 
 -- what reading a cell record gives: the answer, 0 for a record that keeps every rule, and the values as they stand
 unfoldable pub readCell : SystemConfig → List ℕ → CellRead

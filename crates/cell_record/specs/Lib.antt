@@ -1,1 +1,2 @@
 pub mod CellRecord
+pub mod SharedCode

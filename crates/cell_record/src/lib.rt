@@ -7,7 +7,7 @@ ghost use Rattle.base.specs.Lists.{all, any};
 ghost use Rattle.fields.specs.Fields.{u16 as u16-of};
 ghost use Rattle.regions.specs.Regions.{comm};
 ghost use Rattle.region_table.specs.Tables.{maxRegions, regionAt};
-ghost use Rattle.cell_record.specs.CellRecord.{cellOf, cellForm, cellRegions, cellRegionOk, cellValid, cellAnswer, readCell};
+ghost use Rattle.cell_record.specs.CellRecord.{cellOf, cellForm, cellRegions, regionRules, cellRegionOk, cellValid, cellAnswer, readCell};
 use base::E2BIG;
 use base::EINVAL;
 use region_table::MAX_REGIONS;
@@ -88,9 +88,9 @@ pub fn region(s: &[u8], i: u16) -> MemRegion
     region_table::region_at(s, 56 + 32 * i as usize)
 }
 
-// Whether a cell's region keeps its rules in the booted system.
-pub fn cell_region_ok(boot: SystemConfig, r: MemRegion) -> bool
-    ensures { λ q. ⌜ q ≡ cellRegionOk boot r ⌝ }
+// Whether a cell's region keeps the rules of its place and its flags in the booted system.
+fn region_rules(boot: SystemConfig, r: MemRegion) -> bool
+    ensures { λ q. ⌜ q ≡ regionRules boot r ⌝ }
 {
     let hypervisor = boot.hypervisor;
     let ok = regions::is_placed(r)
@@ -102,6 +102,13 @@ pub fn cell_region_ok(boot: SystemConfig, r: MemRegion) -> bool
     }
     let table = boot.regions;
     ok & region_table::inside_one(r, table, boot.region_count)
+}
+
+// Whether a cell's region keeps its rules in the booted system.
+pub fn cell_region_ok(boot: SystemConfig, r: MemRegion) -> bool
+    ensures { λ q. ⌜ q ≡ cellRegionOk boot r ⌝ }
+{
+    region_rules(boot, r) & !regions::is_shared_and_executable(r)
 }
 
 // Whether the record's regions each keep a cell region's rules.

@@ -12,10 +12,10 @@ use Rattle.base.proofs.Tests.{holds}
 use Rattle.cpu_set.specs.CpuSet.{isEmpty}
 use Rattle.fields.specs.Fields.{isName}
 use Rattle.regions.specs.declared.MemRegion.{MemRegion}
-use Rattle.regions.specs.Regions.{placed, flagsOk, readable, comm, loadable, shared, commOk, clearOf, overlap, overlapPhys, apart, wholePages, insidePhys}
+use Rattle.regions.specs.Regions.{placed, flagsOk, readable, comm, loadable, shared, sharedAndExecutable, commOk, clearOf, overlap, overlapPhys, apart, wholePages, insidePhys}
 use Rattle.system_record.specs.declared.SystemConfig.{SystemConfig}
 use Rattle.system_record.specs.SystemRecord.{bootRegions, bootRegionOk, systemValid}
-use Rattle.cell_record.specs.CellRecord.{cellRegionOk, cellValid}
+use Rattle.cell_record.specs.CellRecord.{cellRegionOk, cellValid, regionRules}
 use Rattle.machine_state.specs.declared.PhysPage.{PhysPage}
 use Rattle.machine_state.specs.declared.Machine.{Machine}
 use Rattle.rules.specs.State.{regionsAt}
@@ -37,9 +37,10 @@ pub record Rules (system : SystemConfig) (r : MemRegion) : Type 0 where
 rules : (system : SystemConfig) (r : MemRegion) → cellRegionOk system r ≡ true → Rules system r
 unfolding cellRegionOk flagsOk
 rules system r e =
+    let five : (regionRules system r ≡ true) × _ = and-parts (regionRules system r) (not (sharedAndExecutable r)) e in
     let four : ((placed r && flagsOk r && commOk r && clearOf (system .hypervisor .start) (system .hypervisor .size) r) ≡ true) × _ =
     and-parts (placed r && flagsOk r && commOk r && clearOf (system .hypervisor .start) (system .hypervisor .size) r)
-    (not (loadable r || shared r) || any (insidePhys r) (bootRegions system)) e in
+    (not (loadable r || shared r) || any (insidePhys r) (bootRegions system)) (five .0) in
     let three : ((placed r && flagsOk r && commOk r) ≡ true) × (clearOf (system .hypervisor .start) (system .hypervisor .size) r ≡ true) =
     and-parts (placed r && flagsOk r && commOk r) _ (four .0) in
     let two : ((placed r && flagsOk r) ≡ true) × (commOk r ≡ true) = and-parts (placed r && flagsOk r) _ (three .0) in

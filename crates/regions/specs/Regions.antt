@@ -52,6 +52,9 @@ flag v r = eqb (r .flags / v % 2) 1
 abbrev pub readable : MemRegion → Bool
 readable r = flag readFlag r
 
+abbrev pub executable : MemRegion → Bool
+executable r = flag executeFlag r
+
 abbrev pub comm : MemRegion → Bool
 comm r = flag commFlag r
 
@@ -60,6 +63,10 @@ loadable r = flag loadableFlag r
 
 abbrev pub shared : MemRegion → Bool
 shared r = flag sharedFlag r
+
+-- C-17: "A region both shared and executable"
+abbrev pub sharedAndExecutable : MemRegion → Bool
+sharedAndExecutable r = shared r && executable r
 
 -- "no other bit; read is always set, loadable and shared never together"
 unfoldable pub flagsOk : MemRegion → Bool

@@ -2,7 +2,7 @@
 ghost use mathlib.Core.Path.{_≡_};
 ghost use Prim.Native.Nat.{_+_, _^_};
 ghost use lib.Dec.{leb};
-ghost use Rattle.regions.specs.Regions.{regionOf, wholePages, placed, comm, loadable, shared, flagsOk, commOk};
+ghost use Rattle.regions.specs.Regions.{regionOf, wholePages, placed, executable, comm, loadable, shared, sharedAndExecutable, flagsOk, commOk};
 ghost use Rattle.regions.specs.Regions.{overlap as overlap-of, inside as inside-of, apart as apart-of, clearOf, insidePhys};
 
 // The flags of a region, by their values, and those of a communication region, read, write and comm.
@@ -75,6 +75,13 @@ pub fn is_placed(r: MemRegion) -> bool
     whole_pages(r.phys, r.size) & whole_pages(r.virt, r.size)
 }
 
+// Whether its cell may run what stands in it.
+pub fn is_executable(r: MemRegion) -> bool
+    ensures { λ q. ⌜ q ≡ executable r ⌝ }
+{
+    r.flags / MEM_EXECUTE % 2 == 1
+}
+
 // Whether it is a communication region.
 pub fn is_comm(r: MemRegion) -> bool
     ensures { λ q. ⌜ q ≡ comm r ⌝ }
@@ -94,6 +101,13 @@ pub fn is_shared(r: MemRegion) -> bool
     ensures { λ q. ⌜ q ≡ shared r ⌝ }
 {
     r.flags / MEM_SHARED % 2 == 1
+}
+
+// Whether several cells may have it and its cell may run what stands in it.
+pub fn is_shared_and_executable(r: MemRegion) -> bool
+    ensures { λ q. ⌜ q ≡ sharedAndExecutable r ⌝ }
+{
+    is_shared(r) & is_executable(r)
 }
 
 // Whether the flags are allowed together.
