@@ -17,7 +17,7 @@ use Rattle.cell_record.specs.CellRecord.{cellOf, cellRegions, regionRule
 
 pub record-regions : (r : List ℕ) → cellRegions (cellOf r) ≡ regionsOf 56 (min (u16 48 r) maxRegions) r
 unfolding cellOf
-record-regions r = table-regions 56 r (u16 48 r)
+record-regions r = table-regions 56 r maxRegions (u16 48 r)
 
 anywhere : (ok tied lies : Bool) → not tied ≡ true → ok ≡ (ok && (not tied || lies))
 anywhere true true lies e = absurd (holds e)

@@ -17,21 +17,21 @@ use Rattle.system_record.specs.SystemRecord.{bootRegions}
 use Rattle.cell_record.specs.declared.CellConfig.{CellConfig}
 use Rattle.cell_record.specs.declared.CellRead.{CellRead}
 
--- the values at their offsets: "6 u16 flags (bit 0 passive, others zero), 8 name, 40 u64 CPUs, 48 u16 region count 0..16, 56 regions"
+-- the values at their offsets: "6 u16 flags (bit 0 passive, others zero), 8 name, 40 u64 CPUs, 48 u16 region count .., 56 regions"
 unfoldable pub cellOf : List ℕ → CellConfig
 cellOf r = record {
   name = padded 32 (part 8 32 r);
   passive = eqb (u16 6 r % 2) 1;
   cpus = u64 40 r;
   «region_count» = u16 48 r;
-  regions = tableOf 56 (u16 48 r) r;
+  regions = tableOf maxRegions 56 (u16 48 r) r;
 }
 
--- "Length is 56 + 32n, at most 568"
+-- "Length is 56 + 32n", and as many regions as there may be: "The longest cell record becomes 56 + 2,048 = 2,104 bytes" (request C-16)
 abbrev pub longest : ℕ
-longest = 568
+longest = 56 + 32 * maxRegions
 
--- "mark `TSC`, 4 u16 version 1, 6 u16 flags (bit 0 passive, others zero)", "region count 0..16", "All unnamed bytes are zero",
+-- "mark `TSC`, 4 u16 version 1, 6 u16 flags (bit 0 passive, others zero)", "region count 0.." to the limit, "All unnamed bytes are zero",
 -- "Length is 56 + 32n"
 unfoldable pub cellForm : List ℕ → Bool
 cellForm r =
@@ -74,7 +74,8 @@ validBy regionOk c =
 unfoldable pub cellValid : SystemConfig → CellConfig → Bool
 cellValid boot c = validBy (cellRegionOk boot) c
 
--- what the record itself makes Create answer, with the rules on the values: "-7 record longer than 568; -22 rule broken, no CPU"
+-- what the record itself makes Create answer, with the rules on the values: "-7 record longer than" the limit; "-22 rule
+-- broken, no CPU"
 abbrev pub answerBy : (CellConfig → Bool) → List ℕ → ℤ
 answerBy valid r =
     firstRule

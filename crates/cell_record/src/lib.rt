@@ -15,7 +15,7 @@ use regions::MemRegion;
 use system_record::SystemConfig;
 
 // The longest cell record, in bytes.
-pub const MAX_LENGTH: usize = 568;
+pub const MAX_LENGTH: usize = 56 + 32 * MAX_REGIONS;
 
 // The values of a cell record.
 pub struct CellConfig {
@@ -45,7 +45,7 @@ pub fn cell_of(s: &[u8]) -> CellConfig
 {
     let count = fields::u16_at(s, 48) as usize;
     let name = name(s);
-    let regions = region_table::table_of(s, 56, count);
+    let regions = cell_table(s);
     CellConfig {
         name,
         passive: fields::u16_at(s, 6) % 2 == 1,
@@ -79,6 +79,20 @@ pub fn region_count(s: &[u8]) -> u16
     } else {
         MAX_REGIONS as u16
     }
+}
+
+// The record's regions in a table.
+fn cell_table(s: &[u8]) -> [MemRegion; MAX_REGIONS]
+    ensures { λ r. ⌜ r ≡ cellOf (now (s .entry)) .regions ⌝ }
+{
+    let n = region_count(s) as usize;
+    let mut table = [region_table::no_region(); MAX_REGIONS];
+    let mut i = 0;
+    while i < n {
+        table[i] = region_table::region_at(s, 56 + 32 * i);
+        i += 1;
+    }
+    table
 }
 
 // Region `i` of the record.

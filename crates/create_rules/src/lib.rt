@@ -21,6 +21,7 @@ use base::EPERM;
 use machine_state::Cell;
 use machine_state::CommRegion;
 use machine_state::MAX_CELLS;
+use region_table::MAX_REGIONS;
 use regions::MemRegion;
 use system_record::SystemConfig;
 
@@ -53,7 +54,7 @@ pub fn meets(c: Cell, record: &[u8]) -> bool
     ensures { λ q. ⌜ q ≡ conflicts-of (take (c .«region_count») (c .regions)) (cellRegions (cellOf (now («record» .entry)))) ⌝ }
 {
     let table = c.regions;
-    let n = region_table::used(c.region_count);
+    let n = region_table::used(c.region_count, MAX_REGIONS);
     let mut found = false;
     let mut i = 0;
     while i < n {

@@ -1,5 +1,5 @@
--- Laws of lines for the layers above: a record has at most 700 bytes, since a line has at most 1,400; and only the first 1,401 bytes of
--- a line matter, since a longer one is malformed. Assumes nothing.
+-- Laws of lines for the layers above: a record has at most half as many bytes as a line; and past the first byte behind the longest line nothing
+-- matters, since a longer one is malformed. Assumes nothing.
 use mathlib.Core.Path.{_≡_, refl, sym, ap, _∙_}
 use mathlib.Core.Bool.{Bool, true, false}
 use mathlib.Core.Logic.{⊎-elim}
@@ -12,7 +12,7 @@ use lib.ListN.{length, take, length-take}
 use lib.Seq.{take-all}
 use Rattle.base.proofs.Tests.{le-or-lt}
 use Rattle.machine_state.specs.declared.Event.the-variants.{Malformed}
-use Rattle.lines.specs.Lines.{maxLine, space, intoFirst, lineWords, isCreate, eventOf, recordOf, lineEvent, lineRecord}
+use Rattle.lines.specs.Lines.{maxLine, maxRecord, space, intoFirst, lineWords, isCreate, eventOf, recordOf, lineEvent, lineRecord}
 use Rattle.lines.specs.Reading.{hexWord, lineHex}
 use Rattle.lines.proofs.PairLaws.{length-bytes}
 use Rattle.lines.proofs.RecordLaws.{hex-record}
@@ -50,16 +50,16 @@ hex-total (w ∷ a ∷ b ∷ []) = by-test (isCreate w a b)
     by-test false = omega arith
 hex-total (w ∷ a ∷ b ∷ c ∷ ws) = omega arith
 
-hex-short : (line : List ℕ) → length (lineHex line) ≤ 1400
+hex-short : (line : List ℕ) → length (lineHex line) ≤ maxLine
 unfolding lineHex
 hex-short line = by-test (leb (length line) maxLine) refl
   where
     by-test : (t : Bool) → leb (length line) maxLine ≡ t
-        → length {A = ℕ} (elim t as (λ x. List ℕ) [ true ↦ hexWord (lineWords line) | false ↦ [] ]) ≤ 1400
+        → length {A = ℕ} (elim t as (λ x. List ℕ) [ true ↦ hexWord (lineWords line) | false ↦ [] ]) ≤ maxLine
     by-test true e = omega (arith, hex-total (lineWords line), words-total line, leb-true (length line) maxLine e)
     by-test false e = omega arith
 
-pub record-short : (line : List ℕ) → length (lineRecord line) ≤ 700
+pub record-short : (line : List ℕ) → length (lineRecord line) ≤ maxRecord
 record-short line = rw (sym (hex-record line (lineHex line) refl), length-bytes (lineHex line)) (omega (arith, hex-short line))
 
 -- ---- what stands past the longest line
@@ -71,19 +71,19 @@ module _ {A : Type 0} (f : List ℕ → A) (z : A) where
   past : (line : List ℕ) → maxLine < length line → unlessLong line ≡ z
   past line h = rw (lt-leb (length line) maxLine h, unlessLong)
 
-  cut : (line : List ℕ) → unlessLong (take 1401 line) ≡ unlessLong line
+  cut : (line : List ℕ) → unlessLong (take (suc maxLine) line) ≡ unlessLong line
   cut line = ⊎-elim short long (le-or-lt (length line) maxLine)
     where
-      short : length line ≤ maxLine → unlessLong (take 1401 line) ≡ unlessLong line
-      short h = ap unlessLong (take-all 1401 line (omega arith))
+      short : length line ≤ maxLine → unlessLong (take (suc maxLine) line) ≡ unlessLong line
+      short h = ap unlessLong (take-all (suc maxLine) line (omega arith))
 
-      long : maxLine < length line → unlessLong (take 1401 line) ≡ unlessLong line
-      long h = past (take 1401 line) (omega (arith, length-take 1401 line)) ∙ sym (past line h)
+      long : maxLine < length line → unlessLong (take (suc maxLine) line) ≡ unlessLong line
+      long h = past (take (suc maxLine) line) (omega (arith, length-take (suc maxLine) line)) ∙ sym (past line h)
 
-pub event-cut : (line : List ℕ) → lineEvent (take 1401 line) ≡ lineEvent line
+pub event-cut : (line : List ℕ) → lineEvent (take (suc maxLine) line) ≡ lineEvent line
 unfolding lineEvent
 event-cut line = cut (λ l. eventOf (lineWords l)) Malformed line
 
-pub record-cut : (line : List ℕ) → lineRecord (take 1401 line) ≡ lineRecord line
+pub record-cut : (line : List ℕ) → lineRecord (take (suc maxLine) line) ≡ lineRecord line
 unfolding lineRecord
 record-cut line = cut (λ l. recordOf (lineWords l)) [] line

@@ -1,16 +1,20 @@
 -- Log lines. Document 01, "Replay program": the event that a line of bytes says, and the record that a `create` line brings.
 use mathlib.Core.Bool.{Bool, true, false, not, _&&_, _||_}
 use mathlib.Core.List.{List, [], _∷_}
-use Prim.Native.Nat.{ℕ, _+_, _-_, _*_, _^_}
+use Prim.Native.Nat.{ℕ, _+_, _-_, _*_, _/_, _^_}
 use lib.Dec.{leb, ltb, eqb}
 use lib.ListN.{length}
 use Rattle.base.specs.Lists.{all, same}
 use Rattle.machine_state.specs.declared.Event.{Event}
 use Rattle.machine_state.specs.declared.Event.the-variants.{Call, Store, Fault, Exit, Poll, Malformed}
 
--- "at most 1,400 bytes without it"
+-- "a line feed ends a line ..; at most" so many "bytes without it": "replay lines may be 4,400 bytes" (request C-16)
 abbrev pub maxLine : ℕ
-maxLine = 1400
+maxLine = 4400
+
+-- a line's HEX has two digits to a byte, so no record of a line is longer than this
+abbrev pub maxRecord : ℕ
+maxRecord = maxLine / 2
 
 -- "single spaces": the words of a line are what stands between its spaces. Where two spaces meet, or one begins or ends the line, the
 -- word is empty, which is no line word, number or HEX

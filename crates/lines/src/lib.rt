@@ -19,7 +19,10 @@ use words::is_word;
 use words::word_end;
 
 // The longest line, without its line feed.
-pub const MAX_LINE: usize = 1400;
+pub const MAX_LINE: usize = 4400;
+
+// The longest record that a line can bring.
+pub const MAX_RECORD: usize = MAX_LINE / 2;
 
 // A line that is read: its event, and how many bytes of a record it brings.
 pub struct Line {

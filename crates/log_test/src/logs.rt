@@ -1,4 +1,5 @@
 // The machine of a log, and the ways to run a log over it.
+use lines::MAX_RECORD;
 use machine_state::Machine;
 use replay_log::Replay;
 use test_support::names;
@@ -83,7 +84,7 @@ struct Stepping {
 
 // One line of the log, as an event for the shim's entry.
 fn step_line(s: Stepping, log: &[u8], out: &mut [u8]) -> Stepping {
-    let mut record = [0u8; 700];
+    let mut record = [0u8; MAX_RECORD];
     let mut answer = [0u8; 32];
     let m = s.machine;
     let line = text::line_at(log, s.at);

@@ -127,9 +127,8 @@ place-fits id size h l = let m : id * size ≤ 16 * size = mul-le-mul-right size
 
 -- ---- what a look at a table has found after i of its regions
 
-pub sees-none : (p : PhysPage) (table : List MemRegion) → Sees p (take 0 table) (record { any = false; own = false; shared = false; loadable = false; touch = false })
+pub sees-none : (p : PhysPage) (table : List MemRegion) → Sees p (take 0 table) (record { own = false; shared = false; loadable = false; touch = false })
 sees-none p table = record {
-  at-all = any-none _ table;
   as-own = any-none _ table;
   as-shared = any-none _ table;
   as-loadable = any-none _ table;
@@ -144,14 +143,12 @@ module _ (p : PhysPage) (table : List MemRegion) (i : ℕ) (d r : MemRegion) (in
   pub sees-more : (s : Sight) (here isShared isComm isLoadable : Bool) → Sees p (take i table) s
       → here ≡ hasPhys p r → isShared ≡ shared r → isComm ≡ comm r → isLoadable ≡ loadable r
       → Sees p (take (i + 1) table) (record {
-        any = s .any || here;
         own = s .own || here && not isShared && not isComm;
         shared = s .shared || here && isShared;
         loadable = s .loadable || here && isLoadable;
         touch = s .touch || here && not isComm;
       })
   sees-more s here isShared isComm isLoadable f h e c l = record {
-    at-all = any-turn _ table i d _ _ (f .at-all) (rw (h, is)) inside;
     as-own = any-turn _ table i d _ _ (f .as-own) (rw (h, e, c, is)) inside;
     as-shared = any-turn _ table i d _ _ (f .as-shared) (rw (h, e, is)) inside;
     as-loadable = any-turn _ table i d _ _ (f .as-loadable) (rw (h, l, is)) inside;

@@ -20,7 +20,6 @@ use Rattle.pages.specs.declared.Holders.{Holders}
 
 -- of a list of regions, the ways that the rules' sentences name
 pub record Sees (p : PhysPage) (rs : List MemRegion) (s : Sight) : Type 0 where
-  pub at-all : s .any ≡ any (hasPhys p) rs
   pub as-own : s .own ≡ any (λ r. hasPhys p r && not (shared r) && not (comm r)) rs
   pub as-shared : s .shared ≡ any (λ r. hasPhys p r && shared r) rs
   pub as-loadable : s .loadable ≡ any (λ r. hasPhys p r && loadable r) rs

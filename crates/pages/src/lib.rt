@@ -2,6 +2,7 @@
 // mapped to.
 ghost use mathlib.Core.Path.{_≡_};
 ghost use lib.ListN.{take};
+ghost use Rattle.base.specs.Lists.{any};
 ghost use Rattle.machine_state.specs.declared.Machine.{Machine};
 ghost use Rattle.rules.specs.Pages.{hasPage, hasPhys, hasVirt, hasBooted, hypervisorHas, bootHas, ownerOf, isLoading, openToRoot};
 ghost use Rattle.rules.specs.Pages.{rootMayTouch, cellMayTouch, mayTouch, regionFor, accessOf, mappedBy, cellMapping, ifTouchable, rootMapping, mappingOf};
@@ -16,13 +17,13 @@ use machine_state::Owner;
 use machine_state::Phase;
 use machine_state::PhysPage;
 use machine_state::Power;
+use region_table::MAX_BOOT_REGIONS;
 use region_table::MAX_REGIONS;
 use regions::MemRegion;
 
 // What the regions of a table are to a physical page: whether one has it, and one that is neither
 // shared nor comm, a shared one, a loadable one, one that is not comm.
 struct Sight {
-    any: bool,
     own: bool,
     shared: bool,
     loadable: bool,
@@ -91,8 +92,7 @@ fn is_loading(phase: Phase) -> bool
 fn look_at(table: [MemRegion; MAX_REGIONS], count: usize, page: PhysPage) -> Sight
     ensures { λ q. ⌜ Sees page (take count table) q ⌝ }
 {
-    let n = region_table::used(count);
-    let mut any = false;
+    let n = region_table::used(count, MAX_REGIONS);
     let mut own = false;
     let mut shared = false;
     let mut loadable = false;
@@ -103,7 +103,6 @@ fn look_at(table: [MemRegion; MAX_REGIONS], count: usize, page: PhysPage) -> Sig
         let here = has_phys(r, page);
         let is_shared = regions::is_shared(r);
         let is_comm = regions::is_comm(r);
-        any = any | here;
         own = own | here & !is_shared & !is_comm;
         shared = shared | here & is_shared;
         loadable = loadable | here & regions::is_loadable(r);
@@ -111,7 +110,6 @@ fn look_at(table: [MemRegion; MAX_REGIONS], count: usize, page: PhysPage) -> Sig
         i += 1;
     }
     Sight {
-        any,
         own,
         shared,
         loadable,
@@ -154,14 +152,27 @@ fn hypervisor_has(m: Machine, page: PhysPage) -> bool
     has_page(memory.start, memory.size, page.0)
 }
 
+// Whether one of the first `count` regions of the system's table has a page.
+fn some_has(table: [MemRegion; MAX_BOOT_REGIONS], count: usize, page: PhysPage) -> bool
+    ensures { λ q. ⌜ q ≡ any (hasPhys page) (take count table) ⌝ }
+{
+    let n = region_table::used(count, MAX_BOOT_REGIONS);
+    let mut found = false;
+    let mut i = 0;
+    while i < n {
+        found = found | has_phys(table[i], page);
+        i += 1;
+    }
+    found
+}
+
 // Whether a boot region has a page.
 fn boot_has(m: Machine, page: PhysPage) -> bool
     ensures { λ q. ⌜ q ≡ bootHas page m ⌝ }
 {
     let system = m.system;
     let regions = system.regions;
-    let seen = look_at(regions, system.region_count, page);
-    seen.any
+    some_has(regions, system.region_count, page)
 }
 
 // The owner, by what is found of a page: whether the machine was booted, hypervisor memory has it,
@@ -258,7 +269,23 @@ pub fn may_touch(m: Machine, id: u64, page: PhysPage) -> bool
 fn region_for(table: [MemRegion; MAX_REGIONS], count: usize, page: CellPage) -> MemRegion
     ensures { λ q. ⌜ q ≡ regionFor page (take count table) ⌝ }
 {
-    let n = region_table::used(count);
+    let n = region_table::used(count, MAX_REGIONS);
+    let mut i = 0;
+    while i < n {
+        let r = table[i];
+        if has_virt(r, page) {
+            return r;
+        }
+        i += 1;
+    }
+    region_table::no_region()
+}
+
+// The same of the system's table.
+fn boot_region_for(table: [MemRegion; MAX_BOOT_REGIONS], count: usize, page: CellPage) -> MemRegion
+    ensures { λ q. ⌜ q ≡ regionFor page (take count table) ⌝ }
+{
+    let n = region_table::used(count, MAX_BOOT_REGIONS);
     let mut i = 0;
     while i < n {
         let r = table[i];
@@ -327,7 +354,8 @@ fn root_mapping(m: Machine, page: CellPage) -> Mapping
 {
     let system = m.system;
     let regions = system.regions;
-    if_touchable(m, table_mapping(regions, system.region_count, page))
+    let r = boot_region_for(regions, system.region_count, page);
+    if_touchable(m, translate(r, page))
 }
 
 // What a cell page is mapped to for a cell; nothing where there is no such cell.

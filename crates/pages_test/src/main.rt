@@ -20,6 +20,8 @@
 mod questions;
 mod show;
 
+use lines::MAX_LINE;
+use lines::MAX_RECORD;
 use machine_state::Event;
 use machine_state::Machine;
 use test_support::cases;
@@ -157,8 +159,8 @@ fn is_event(e: Event) -> bool {
 
 // An event, by the entry for the shim. A malformed line is an error here.
 fn event(m: Machine, t: Tally, script: &[u8], s: &[u8]) -> Done {
-    let mut line = [0u8; 1400];
-    let mut record = [0u8; 700];
+    let mut line = [0u8; MAX_LINE];
+    let mut record = [0u8; MAX_RECORD];
     let mut out = [0u8; 32];
     let e = expand::expand(script, cases::asked(s), &mut line);
     let bytes = text::first(&line, e.n);

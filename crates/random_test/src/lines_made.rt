@@ -6,6 +6,7 @@
 ghost use Prim.Native.Nat.{_-_, _<_, _^_};
 use crate::dice;
 use crate::dice::Dice;
+use cell_record::MAX_LENGTH;
 use test_support::expand::put_hex;
 use test_support::names;
 use test_support::records;
@@ -85,7 +86,7 @@ fn damaged(d: Dice, r: Record) -> Record {
     let a = dice::thrown(d);
     let b = dice::thrown(a);
     match dice::below(d, 8) {
-        0 => records::sized(r, 569),
+        0 => records::sized(r, MAX_LENGTH + 1),
         1 => records::sized(r, dice::below(a, 200) as usize),
         _ => records::put8(r, dice::below(a, 130) as usize, dice::below(b, 255) as u8),
     }

@@ -14,9 +14,14 @@ mod view;
 
 use counts::Counts;
 use dice::Dice;
+use lines::MAX_LINE;
+use lines::MAX_RECORD;
 use lines_made::nth;
 use machine_state::Machine;
 use test_support::text;
+
+// Room for a line with its line feed.
+const LOG: usize = MAX_LINE + 1;
 
 // How many machines are run, and how many events each of them meets.
 const MACHINES: usize = 77;
@@ -106,9 +111,9 @@ fn one_machine(g: Going, script: &[u8], templates: u64) -> Totals {
 
 // One event, by both entries, and the claims.
 fn one_event(g: Going, script: &[u8], templates: u64) -> Going {
-    let mut log = [0u8; 1404];
+    let mut log = [0u8; LOG];
     let mut out = [0u8; 64];
-    let mut record = [0u8; 700];
+    let mut record = [0u8; MAX_RECORD];
     let before = g.machine;
     let t = g.totals;
     let d = t.dice;

@@ -15,7 +15,7 @@ use Rattle.base.proofs.Tests.{equal-leb}
 use Rattle.base.proofs.Lists.{all-turn, any-turn, pairwise-turn, length-upTo, getD-upTo, map-upTo}
 use Rattle.regions.specs.declared.MemRegion.{MemRegion}
 use Rattle.regions.specs.Regions.{noRegion}
-use Rattle.region_table.specs.Tables.{maxRegions, regionAt, regionsOf, tableOf}
+use Rattle.region_table.specs.Tables.{regionAt, regionsOf, tableOf}
 
 -- what place k of a table of n regions holds
 abbrev pub place : ℕ → List ℕ → ℕ → ℕ → MemRegion
@@ -32,16 +32,16 @@ place-same : (base : ℕ) (bs : List ℕ) (n m k : ℕ) → (k < n → k < m) �
 place-same base bs n m k f g =
     ap (λ (t : Bool). elim t as (λ x. MemRegion) [ true ↦ regionAt base bs k | false ↦ noRegion ]) (equal-leb (suc k) n (suc k) m f g)
 
--- a list holds the first n regions
-abbrev pub Filled : ℕ → List ℕ → ℕ → List MemRegion → Type 0
-Filled base bs n xs = (k : ℕ) → k < maxRegions → getD xs k noRegion ≡ place base bs n k
+-- a table of so many places holds the first n regions
+abbrev pub Filled : ℕ → ℕ → List ℕ → ℕ → List MemRegion → Type 0
+Filled places base bs n xs = (k : ℕ) → k < places → getD xs k noRegion ≡ place base bs n k
 
-pub filled-none : (base : ℕ) (bs : List ℕ) (r : MemRegion) → r ≡ noRegion → Filled base bs 0 (replicate maxRegions r)
-filled-none base bs r e k h = getD-replicate maxRegions k r noRegion h ∙ e ∙ sym (place-out base bs 0 k (omega arith))
+pub filled-none : (places base : ℕ) (bs : List ℕ) (r : MemRegion) → r ≡ noRegion → Filled places base bs 0 (replicate places r)
+filled-none places base bs r e k h = getD-replicate places k r noRegion h ∙ e ∙ sym (place-out base bs 0 k (omega arith))
 
-module _ (base : ℕ) (bs : List ℕ) (xs : List MemRegion) (size : length xs ≡ maxRegions) where
-  pub filled-more : (i : ℕ) (r : MemRegion) → i < maxRegions → r ≡ regionAt base bs i → Filled base bs i xs
-      → Filled base bs (i + 1) (set xs i r)
+module _ (places base : ℕ) (bs : List ℕ) (xs : List MemRegion) (size : length xs ≡ places) where
+  pub filled-more : (i : ℕ) (r : MemRegion) → i < places → r ≡ regionAt base bs i → Filled places base bs i xs
+      → Filled places base bs (i + 1) (set xs i r)
   filled-more i r h e f k l = by-place (ℕ-discrete k i)
     where
       by-place : Dec (k ≡ i) → getD (set xs i r) k noRegion ≡ place base bs (i + 1) k
@@ -50,10 +50,10 @@ module _ (base : ℕ) (bs : List ℕ) (xs : List MemRegion) (size : length xs �
       by-place (no n) =
           getD-set-other xs i k r noRegion n ∙ f k l ∙ place-same base bs i (i + 1) k (λ p. omega arith) (λ p. omega arith)
 
-  pub filled-all : (count n i : ℕ) → n ≡ min count maxRegions → i ≤ n → n ≤ i → Filled base bs i xs → xs ≡ tableOf base count bs
+  pub filled-all : (count n i : ℕ) → n ≡ min count places → i ≤ n → n ≤ i → Filled places base bs i xs → xs ≡ tableOf places base count bs
   unfolding tableOf
   filled-all count n i e h g f =
-      map-upTo (place base bs count) maxRegions noRegion xs size
+      map-upTo (place base bs count) places noRegion xs size
       (λ k l. f k l ∙ place-same base bs i count k (λ p. omega arith) (λ p. omega arith))
 
 -- ---- the regions of a record, one more at a time
@@ -124,10 +124,10 @@ module _ (base : ℕ) (bs : List ℕ) where
   pairwise-no-region p = refl
 
   -- the regions that a table's count names are the record's
-  pub table-regions : (n : ℕ) → take n (tableOf base n bs) ≡ regionsOf base (min n maxRegions) bs
+  pub table-regions : (places n : ℕ) → take n (tableOf places base n bs) ≡ regionsOf base (min n places) bs
   unfolding tableOf regionsOf
-  table-regions n =
-      map-upTo (regionAt base bs) (min n maxRegions) noRegion (take n (tableOf base n bs))
-      (length-take n (tableOf base n bs) ∙ ap (min n) (length-upTo (place base bs n) maxRegions))
-      (λ k l. getD-take n (tableOf base n bs) k noRegion (omega arith)
-      ∙ getD-upTo (place base bs n) maxRegions k noRegion (omega arith) ∙ place-in base bs n k (omega arith))
+  table-regions places n =
+      map-upTo (regionAt base bs) (min n places) noRegion (take n (tableOf places base n bs))
+      (length-take n (tableOf places base n bs) ∙ ap (min n) (length-upTo (place base bs n) places))
+      (λ k l. getD-take n (tableOf places base n bs) k noRegion (omega arith)
+      ∙ getD-upTo (place base bs n) places k noRegion (omega arith) ∙ place-in base bs n k (omega arith))

@@ -17,10 +17,14 @@ regionAt base bs i = regionOf (drop (base + 32 * i) bs)
 unfoldable pub regionsOf : ℕ → ℕ → List ℕ → List MemRegion
 regionsOf base n bs = map (regionAt base bs) (upTo n)
 
--- how many regions a record may have, and places a table has: "region count 1..16", "region count 0..16"
+-- how many regions a record may have, and places its table: a cell's, "Raise the limit from 16 to 64 regions for cells", and the system's,
+-- "boot stays at 16" (request C-16)
 abbrev pub maxRegions : ℕ
-maxRegions = 16
+maxRegions = 64
 
--- the same in a table
-unfoldable pub tableOf : ℕ → ℕ → List ℕ → List MemRegion
-tableOf base n bs = map (λ i. elim (ltb i n) [ true ↦ regionAt base bs i | false ↦ noRegion ]) (upTo maxRegions)
+abbrev pub maxBootRegions : ℕ
+maxBootRegions = 16
+
+-- the same in a table of so many places
+unfoldable pub tableOf : ℕ → ℕ → ℕ → List ℕ → List MemRegion
+tableOf places base n bs = map (λ i. elim (ltb i n) [ true ↦ regionAt base bs i | false ↦ noRegion ]) (upTo places)

@@ -1,18 +1,20 @@
-// The regions of a record: reading them, the rules that speak of several, and the tables that hold
+// The regions of a record: reading one, the rules that speak of several, and the tables that hold
 // them.
 //
-// A rule on a record's regions looks at the record's bytes. A table has MAX_REGIONS places and a
-// count of those in use; a count past that means all of them.
+// A rule on a record's regions looks at the record's bytes. A table has a count of the places in
+// use; a count past its places means all of them.
 ghost use mathlib.Core.Path.{_≡_};
 ghost use Prim.Native.Nat.{min};
 ghost use lib.ListN.{take, drop};
 ghost use Rattle.base.specs.Lists.{all, any, pairwise};
 ghost use Rattle.regions.specs.Regions.{regionOf, noRegion, comm, apart, insidePhys};
-ghost use Rattle.region_table.specs.Tables.{maxRegions, regionsOf, tableOf};
+ghost use Rattle.region_table.specs.Tables.{regionsOf};
 use regions::MemRegion;
 
-// How many places a table has.
-pub const MAX_REGIONS: usize = 16;
+// How many regions a cell may have, and the system; so many places their tables have.
+pub const MAX_REGIONS: usize = 64;
+
+pub const MAX_BOOT_REGIONS: usize = 16;
 
 // What stands in a place that is not used.
 pub fn no_region() -> MemRegion
@@ -37,36 +39,18 @@ pub fn region_at(s: &[u8], at: usize) -> MemRegion
     }
 }
 
-// The table of the `count` regions of a record that begin at byte `base`.
-pub fn table_of(s: &[u8], base: u16, count: usize) -> [MemRegion; MAX_REGIONS]
-    ensures { λ r. ⌜ r ≡ tableOf base count (now (s .entry)) ⌝ }
+// How many of a table's places a count means.
+pub fn used(count: usize, places: usize) -> usize
+    ensures { λ r. ⌜ r ≡ min count places ⌝ }
 {
-    let n = used(count);
-    let mut table = [no_region(); MAX_REGIONS];
-    let mut i = 0;
-    while i < n {
-        table[i] = region_at(s, base as usize + 32 * i);
-        i += 1;
-    }
-    table
-}
-
-// How many places a count means.
-pub fn used(count: usize) -> usize
-    ensures { λ r. ⌜ r ≡ min count maxRegions ⌝ }
-{
-    if count < MAX_REGIONS {
-        count
-    } else {
-        MAX_REGIONS
-    }
+    if count < places { count } else { places }
 }
 
 // Whether some region is a communication region.
 pub fn has_comm(table: [MemRegion; MAX_REGIONS], count: usize) -> bool
     ensures { λ r. ⌜ r ≡ any comm (take count table) ⌝ }
 {
-    let n = used(count);
+    let n = used(count, MAX_REGIONS);
     let mut found = false;
     let mut i = 0;
     while i < n {
@@ -76,11 +60,11 @@ pub fn has_comm(table: [MemRegion; MAX_REGIONS], count: usize) -> bool
     found
 }
 
-// Whether a region lies physically inside a single region of the table.
-pub fn inside_one(r: MemRegion, table: [MemRegion; MAX_REGIONS], count: usize) -> bool
+// Whether a region lies physically inside a single region of the system's table.
+pub fn inside_one(r: MemRegion, table: [MemRegion; MAX_BOOT_REGIONS], count: usize) -> bool
     ensures { λ q. ⌜ q ≡ any (insidePhys r) (take count table) ⌝ }
 {
-    let n = used(count);
+    let n = used(count, MAX_BOOT_REGIONS);
     let mut found = false;
     let mut i = 0;
     while i < n {

@@ -13,7 +13,7 @@ use lib.ListN.{length, take, drop, drop-of-length-le, length-take, length-drop, 
 use lib.Seq.{take-all, take-length, take-append-add, length-take-le, take-at, drop-at, drop-append-add, drop-drop}
 use borrow.Author.Tests.{le-ltb, ltb-true, leb-true}
 use Rattle.base.proofs.Tests.{le-or-lt, holds, is-true, and-left, and-right}
-use Rattle.lines.specs.Lines.{lineRecord}
+use Rattle.lines.specs.Lines.{maxRecord, lineRecord}
 use Rattle.lines.proofs.Laws.{record-short}
 use Rattle.machine_state.specs.declared.Answer.{Answer}
 use Rattle.texts.specs.Texts.{answerLine, putLine, putCount}
@@ -42,8 +42,8 @@ appended d at n s h e =
     ∙ sym (take-append-add (take at d) s (length d - at))
     ∙ ap (λ (k : ℕ). take k (take at d ++ s)) (ap (λ (k : ℕ). k + (length d - at)) (length-take-le at d h) ∙ room)
 
--- a record put to the start of a buffer of 700 bytes: all of it fits
-module _ (line buffer after : List ℕ) (n : ℕ) (size : length buffer ≡ 700) (isCount : n ≡ min (length (lineRecord line)) (length buffer))
+-- a record put to the start of a buffer of as many bytes as the longest has: all of it fits
+module _ (line buffer after : List ℕ) (n : ℕ) (size : length buffer ≡ maxRecord) (isCount : n ≡ min (length (lineRecord line)) (length buffer))
     (isAfter : after ≡ take n (lineRecord line) ++ drop n buffer) where
   whole : n ≡ length (lineRecord line)
   whole = let short = record-short line in omega arith
@@ -54,7 +54,7 @@ module _ (line buffer after : List ℕ) (n : ℕ) (size : length buffer ≡ 700)
   front : take n (lineRecord line) ≡ lineRecord line
   front = take-all n (lineRecord line) (let e = whole in omega arith)
 
-  pub record-size : length after ≡ 700
+  pub record-size : length after ≡ maxRecord
   record-size =
       let e = whole in
       let low = record-inside in

@@ -1,5 +1,5 @@
 -- A log in pieces. Feeding is by bytes, so that of two pieces it goes on where the first left; a piece without a line feed makes the line
--- begun longer, and a line feed ends it. Only the first 1,401 bytes of a line matter, so what is kept of it answers as the whole. Assumes
+-- begun longer, and a line feed ends it. Past the first byte behind the longest line nothing matters, so what is kept of it answers as the whole. Assumes
 -- nothing.
 use mathlib.Core.Path.{_≡_, refl, sym, ap, ap₂, _∙_}
 use mathlib.Core.Bool.{Bool, true, false}

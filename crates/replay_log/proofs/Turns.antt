@@ -28,6 +28,7 @@ use Rattle.effects.specs.declared.Numbers.{Numbers}
 use Rattle.effects.specs.Parts.{isDisable, figuresOf, cellChange, changedCell, partsStored, cpusAfter}
 use Rattle.effects.proofs.Laws.{numbersThere, wordsThere, stored-is-effect}
 use Rattle.lines.specs.declared.Line.{Line}
+use Rattle.lines.specs.Lines.{maxRecord}
 use Rattle.lines.specs.Reading.{ReadsLine}
 use Rattle.texts.specs.Texts.{answerLine}
 use Rattle.replay_log.specs.Feed.{Going, feed, lineLength, keptBytes}
@@ -38,7 +39,7 @@ use Rattle.replay_log.proofs.Laws.{going, goes-on-ended}
 -- the invariant: the log up to `at`, fed to what was kept, gives the machine, the line and the text
 abbrev pub Keeps : (log out₀ : List ℕ) (start : Going) (out line buffer : List ℕ) (at len written : ℕ) (m : Machine) → Type 0
 Keeps log out₀ start out line buffer at len written m =
-    (at ≤ length log) × (written ≤ length out) × (length out ≡ length out₀) × (len ≤ keptBytes) × (length line ≡ keptBytes) × (length buffer ≡ 700)
+    (at ≤ length log) × (written ≤ length out) × (length out ≡ length out₀) × (len ≤ keptBytes) × (length line ≡ keptBytes) × (length buffer ≡ maxRecord)
     × (feed (take at log) start ≡ going m (take len line) (take written out)) × (drop written out ≡ drop written out₀)
 
 module _ (log out₀ : List ℕ) (start : Going) (out line buffer : List ℕ) (at len written : ℕ) (met : Machine)
@@ -117,7 +118,7 @@ pub as-changed : (change known : CellChange) (new : CellConfig) (c r : Cell) →
 as-changed change known new c r e f = f ∙ ap (λ (x : CellChange). changedCell x new c) (sym e)
 
 -- the record that a line brings fits its buffer
-pub record-fits : (line buffer buffer′ : List ℕ) (read : Line) → length buffer ≡ 700 → ReadsLine line buffer read buffer′ → read .len ≤ length buffer′
+pub record-fits : (line buffer buffer′ : List ℕ) (read : Line) → length buffer ≡ maxRecord → ReadsLine line buffer read buffer′ → read .len ≤ length buffer′
 record-fits line buffer buffer′ read size r =
     subst (λ (n : ℕ). read .len ≤ n) (size ∙ sym (record-size line buffer buffer′ (read .len) size (r .size) (r .bytes)))
     (record-inside line buffer buffer′ (read .len) size (r .size) (r .bytes))

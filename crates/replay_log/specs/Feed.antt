@@ -25,7 +25,7 @@ ended g = record {
   text = g .text ++ answerLine (stepLine (g .begun) (g .machine) .answer);
 }
 
--- more bytes of a line. One of more than 1,400 bytes is malformed whatever it holds, so no more than 1,401 are kept
+-- more bytes of a line. One longer than the longest is malformed whatever it holds, so no more than one byte past that is kept
 abbrev pub keptBytes : ℕ
 keptBytes = suc maxLine
 

@@ -1,8 +1,8 @@
 // A run over a log: lines to events, events to answers, answers to text.
 //
 // The log may come in pieces, cut anywhere. A run keeps the machine and the bytes of a line that
-// has no line feed yet, at most 1,401 of them. What is decided on an event is stored in place; only
-// an effect hands the machine over.
+// has no line feed yet, at most one more than a line may have. What is decided on an event is
+// stored in place; only an effect hands the machine over.
 ghost use mathlib.Core.Path.{_≡_};
 ghost use mathlib.Core.Bool.{false, _&&_};
 ghost use mathlib.Core.List.{[], _++_};
@@ -14,15 +14,14 @@ ghost use Rattle.replay_log.specs.Feed.{feed, textAtEnd, lineLength, goi
 ghost use Rattle.replay_log.specs.Run.{Puts, Runs};
 use asking::Effect;
 use effects::CellChange;
+use lines::MAX_LINE;
+use lines::MAX_RECORD;
 use machine_state::Answer;
 use machine_state::Machine;
 use texts::MAX_TEXT;
 
-// The longest record that a line can bring.
-const RECORD: usize = 700;
-
 // How many bytes of a line are kept: one more than a line may have.
-pub const KEPT: usize = 1401;
+pub const KEPT: usize = MAX_LINE + 1;
 
 // What a run keeps between two pieces of a log: the machine, and the first `len` bytes of `line`.
 pub struct Replay {
@@ -113,7 +112,7 @@ pub fn run(kept: Replay, log: &[u8], out: &mut [u8]) -> Ran
     let mut waiting = m.waiting;
     let mut line = kept.line;
     let mut len = smaller(kept.len, KEPT);
-    let mut record = [0u8; RECORD];
+    let mut record = [0u8; MAX_RECORD];
     let mut at = 0;
     let mut written = 0;
     while goes_on(at, log.len(), written, out.len()) {
@@ -252,7 +251,7 @@ pub fn finish(kept: Replay, out: &mut [u8]) -> usize
     }
     let m = kept.machine;
     let line = kept.line;
-    let mut record = [0u8; RECORD];
+    let mut record = [0u8; MAX_RECORD];
     let read = lines::read_line(&line[0..len], &mut record);
     let event = read.event;
     let n = read.len;

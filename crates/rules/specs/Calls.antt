@@ -51,7 +51,7 @@ ends code m = answered (Code code) m
 unfoldable pub disableCall : CellConfig → Machine → Stepped
 disableCall new m = ask Disable rootId 0 new m
 
--- "1 Create | -1 some active cell has state 1; -7 record longer than 568; -22 rule broken, no CPU, or a CPU outside the boot set; -17 name in
+-- "1 Create | -1 some active cell has state 1; -7 record longer than the limit; -22 rule broken, no CPU, or a CPU outside the boot set; -17 name in
 -- use, root's included; -16 caller's CPU wanted, a CPU not root's, or a region physically meeting a live non-root cell's ..; -12 no free ID,
 -- or pool used would pass its total; else the new ID"
 unfoldable pub createCall : ℕ → List ℕ → Machine → Stepped

@@ -21,7 +21,7 @@ otherCellLocked except m = any (λ id. active m id && not (eqb id except) && isL
 abbrev pub someCellLocked : Machine → Bool
 someCellLocked m = otherCellLocked 0 m
 
--- "-7 record longer than 568"
+-- "-7 record longer than" the limit, that "moves to 2,105" bytes (request C-16)
 abbrev pub tooLong : List ℕ → Bool
 tooLong bytes = ltb longest (length bytes)
 

@@ -11,7 +11,7 @@ use Rattle.cpu_set.specs.CpuSet.{isEmpty, below}
 use Rattle.fields.specs.Fields.{u16, u32, u64, zeros, isName, padded}
 use Rattle.regions.specs.declared.MemRegion.{MemRegion}
 use Rattle.regions.specs.Regions.{wholePages, placed, flagsOk, clearOf, apart}
-use Rattle.region_table.specs.Tables.{maxRegions, tableOf}
+use Rattle.region_table.specs.Tables.{maxBootRegions, tableOf}
 use Rattle.system_record.specs.declared.SystemConfig.{SystemConfig}
 use Rattle.system_record.specs.declared.SystemRead.{SystemRead}
 
@@ -27,7 +27,7 @@ systemOf r = record {
   remap = record { pages = u32 80 r; used = u32 84 r };
   timer = u16 88 r;
   «region_count» = u16 6 r;
-  regions = tableOf 96 (u16 6 r) r;
+  regions = tableOf maxBootRegions 96 (u16 6 r) r;
 }
 
 -- "mark `TSS`, 4 u16 version 1, 6 u16 region count 1..16", "All unnamed bytes are zero", "Length is 96 + 32n"
@@ -37,7 +37,7 @@ systemForm r =
     && zeros (part 3 1 r)
     && eqb (u16 4 r) 1
     && leb 1 (u16 6 r)
-    && leb (u16 6 r) maxRegions
+    && leb (u16 6 r) maxBootRegions
     && zeros (part 50 6 r)
     && zeros (part 90 6 r)
     && eqb (length r) (96 + 32 * u16 6 r)

@@ -4,12 +4,12 @@ ghost use mathlib.Core.Bool.{_||_};
 ghost use Prim.Native.Nat.{min};
 ghost use Rattle.base.specs.Lists.{all};
 ghost use Rattle.fields.specs.Fields.{u16 as u16-of};
-ghost use Rattle.region_table.specs.Tables.{maxRegions};
+ghost use Rattle.region_table.specs.Tables.{maxBootRegions};
 ghost use Rattle.system_record.specs.SystemRecord.{systemOf, systemForm, bootRegions, bootRegionOk, systemValid, outOfRange, overdrawn, tooMany, bootAnswer, readSystem};
 use base::EINVAL;
 use base::ENOMEM;
 use base::ERANGE;
-use region_table::MAX_REGIONS;
+use region_table::MAX_BOOT_REGIONS;
 use regions::MemRegion;
 
 // A range of physical memory.
@@ -34,7 +34,7 @@ pub struct SystemConfig {
     pub remap: Pool,
     pub timer: u16,
     pub region_count: usize,
-    pub regions: [MemRegion; MAX_REGIONS],
+    pub regions: [MemRegion; MAX_BOOT_REGIONS],
 }
 
 // Boot's answer, and the values as they stand in the record.
@@ -61,7 +61,7 @@ pub fn system_of(s: &[u8]) -> SystemConfig
         pages: fields::u32_at(s, 80),
         used: fields::u32_at(s, 84),
     };
-    let regions = region_table::table_of(s, 96, count);
+    let regions = boot_table(s);
     SystemConfig {
         name,
         cpus: fields::u64_at(s, 40),
@@ -84,7 +84,7 @@ fn system_form(s: &[u8]) -> bool
         & fields::is_zero(fields::part(s, 3, 1))
         & (fields::u16_at(s, 4) == 1)
         & (1 <= n)
-        & (n <= MAX_REGIONS)
+        & (n <= MAX_BOOT_REGIONS)
         & fields::is_zero(fields::part(s, 50, 6))
         & fields::is_zero(fields::part(s, 90, 6))
         & (s.len() == 96 + 32 * n)
@@ -102,14 +102,28 @@ pub fn boot_region_ok(hypervisor: Range, r: MemRegion) -> bool
 
 // How many regions of the record there are: those that its count names, as many as a table holds.
 fn region_count(s: &[u8]) -> u16
-    ensures { λ r. ⌜ r ≡ min (u16-of 6 (now (s .entry))) maxRegions ⌝ }
+    ensures { λ r. ⌜ r ≡ min (u16-of 6 (now (s .entry))) maxBootRegions ⌝ }
 {
     let n = fields::u16_at(s, 6);
-    if (n as usize) < MAX_REGIONS {
+    if (n as usize) < MAX_BOOT_REGIONS {
         n
     } else {
-        MAX_REGIONS as u16
+        MAX_BOOT_REGIONS as u16
     }
+}
+
+// The record's regions in a table.
+fn boot_table(s: &[u8]) -> [MemRegion; MAX_BOOT_REGIONS]
+    ensures { λ r. ⌜ r ≡ systemOf (now (s .entry)) .regions ⌝ }
+{
+    let n = region_count(s) as usize;
+    let mut table = [region_table::no_region(); MAX_BOOT_REGIONS];
+    let mut i = 0;
+    while i < n {
+        table[i] = region_table::region_at(s, 96 + 32 * i);
+        i += 1;
+    }
+    table
 }
 
 // Whether the record's regions each keep a boot region's rules.

@@ -1,7 +1,6 @@
-// Bytes to build a record in. Numbers are little-endian; what would go past the end is left out.
-
-// How many bytes a record of a test may have: more than a line of a log can bring.
-pub const MAX_RECORD: usize = 700;
+// Bytes to build a record in, as many as a line of a log can bring. Numbers are little-endian; what
+// would go past the end is left out.
+use lines::MAX_RECORD;
 
 // A record under test: the first `n` of its bytes.
 pub struct Record {
@@ -23,14 +22,14 @@ pub fn sized(r: Record, n: usize) -> Record {
 
 pub fn put8(r: Record, at: usize, v: u8) -> Record {
     let mut t = r;
-    if at < 700 {
+    if at < MAX_RECORD {
         t.b[at] = v;
     }
     t
 }
 
 pub fn put16(r: Record, at: usize, v: u16) -> Record {
-    if 700 <= at {
+    if MAX_RECORD <= at {
         return r;
     }
     let t = put8(r, at, (v % 0x100) as u8);
@@ -38,7 +37,7 @@ pub fn put16(r: Record, at: usize, v: u16) -> Record {
 }
 
 pub fn put32(r: Record, at: usize, v: u32) -> Record {
-    if 700 <= at {
+    if MAX_RECORD <= at {
         return r;
     }
     let t = put16(r, at, (v % 0x1_0000) as u16);
@@ -46,7 +45,7 @@ pub fn put32(r: Record, at: usize, v: u32) -> Record {
 }
 
 pub fn put64(r: Record, at: usize, v: u64) -> Record {
-    if 700 <= at {
+    if MAX_RECORD <= at {
         return r;
     }
     let t = put32(r, at, (v % 0x1_0000_0000) as u32);

@@ -14,6 +14,7 @@ use crate::records::put16;
 use crate::records::put32;
 use crate::records::put64;
 use crate::records::sized;
+use lines::MAX_RECORD;
 
 // What the words so far have made, and the word that is being read: its first byte, a space where
 // none has begun, and its number.
@@ -166,7 +167,7 @@ fn resized(mut w: Words) -> Words {
 // With another record, and `n` bytes further on.
 fn moved(mut w: Words, r: Record, n: u8) -> Words {
     let at = w.at;
-    if at < 700 {
+    if at < MAX_RECORD {
         w.at = at + n as usize;
     }
     w.record = r;

@@ -1,9 +1,7 @@
 -- `cell_record::cell_of` meets its contract: each value is what its reader ensures. Assumes nothing.
-use mathlib.Core.Path.{ap, _∙_}
+use mathlib.Core.Path.{ap}
 use Prim.Native.Nat.{ℕ, _%_}
 use lib.Dec.{eqb}
-use denote.Ref.{now}
-use Rattle.region_table.specs.Tables.{tableOf}
 use Rattle.cell_record.specs.CellRecord.{cellOf}
 use borrow.Author.Needs.{needs}
 use Rattle.cell_record.proofs.cell_of.Statement.{statement}
@@ -14,7 +12,7 @@ unfolding cellOf
 returns c =
     let count = c .before .before .before .before .u16-at .ensures in
     let name = c .before .before .before .name .ensures in
-    let regions = c .before .before .table-of .ensures ∙ ap (λ (n : ℕ). tableOf 56 n (now (c .before .before .before .before .before .before .args .s))) count in
+    let regions = c .before .before .cell-table .ensures in
     let passive = ap (λ (n : ℕ). eqb (n % 2) 1) (c .before .u16-at2 .ensures) in
     λ i. record {
       name = name i;

@@ -12,11 +12,11 @@ use Rattle.pages.proofs.look_at.Statement.{statement}
 use Rattle.pages.proofs.look_at.Tie as tie
 
 abbrev Inv-loop : tie.InvT-loop
-Inv-loop count page table n any₀ own₀ shared₀ loadable₀ touch₀ i₀ any own shared loadable touch i =
-    (i ≤ n) × Sees page (take i table) (record { any = any; own = own; shared = shared; loadable = loadable; touch = touch })
+Inv-loop count page table n own₀ shared₀ loadable₀ touch₀ i₀ own shared loadable touch i =
+    (i ≤ n) × Sees page (take i table) (record { own = own; shared = shared; loadable = loadable; touch = touch })
 
 abbrev μ-loop : tie.MeasureT-loop
-μ-loop count page table n any₀ own₀ shared₀ loadable₀ touch₀ i₀ any own shared loadable touch i = n - i
+μ-loop count page table n own₀ shared₀ loadable₀ touch₀ i₀ own shared loadable touch i = n - i
 
 loop-holds : tie.Need-loop-holds Inv-loop μ-loop
 loop-holds c = (search needs, sees-none _ (c .before .args .t1))

@@ -1,4 +1,4 @@
--- `region_table::used` meets its contract: the count below 16, and 16 from there on. Assumes nothing.
+-- `region_table::used` meets its contract: the lesser of the two. Assumes nothing.
 use native.Mathlib.Omega.{arith}
 use Rattle.region_table.proofs.used.Statement.{statement}
 use Rattle.region_table.proofs.used.Tie as tie

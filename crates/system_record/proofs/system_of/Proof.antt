@@ -1,9 +1,6 @@
 -- `system_record::system_of` meets its contract: each value is what its reader ensures. Assumes nothing.
 use mathlib.Core.Path.{ap, _∙_}
-use Prim.Native.Nat.{ℕ}
-use denote.Ref.{now}
 use Rattle.fields.specs.Fields.{padded}
-use Rattle.region_table.specs.Tables.{tableOf}
 use Rattle.system_record.specs.SystemRecord.{systemOf}
 use borrow.Author.Needs.{needs}
 use Rattle.system_record.proofs.system_of.Statement.{statement}
@@ -14,7 +11,7 @@ unfolding systemOf
 returns c =
     let count = c .before .before .before .before .before .before .before .before .before .before .before .before .u16-at .ensures in
     let name = c .before .before .before .before .before .before .before .before .before .before .name-of .ensures ∙ ap (padded 32) (c .before .before .before .before .before .before .before .before .before .before .before .part .ensures) in
-    let regions = c .before .before .before .table-of .ensures ∙ ap (λ (n : ℕ). tableOf 96 n (now (c .before .before .before .before .before .before .before .before .before .before .before .before .before .before .args .s))) count in
+    let regions = c .before .before .before .boot-table .ensures in
     λ i. record {
       name = name i;
       cpus = c .before .before .u64-at3 .ensures i;
