@@ -27,7 +27,7 @@ use Rattle.machine_state.specs.Machine.{pastComm, commIn, maxCells}
 use Rattle.rules.specs.State.{commAt, noId, withComm, withWaiting, answered}
 use Rattle.rules.specs.Create.{otherCellLocked}
 use Rattle.rules.specs.Effects.{effect}
-use Rattle.rules.specs.Asking.{nextToMessage, asks, tells, everyCell, isDestroy, shutdownRequest, waitFor, finished, endCode, tell, carryOut, noneToAsk, ask, isHeard, consents, hear, pollCell}
+use Rattle.rules.specs.Asking.{nextToMessage, asks, tells, everyCell, isDestroy, shutdownRequest, asking, telling, waitFor, finished, endCode, tell, carryOut, noneToAsk, ask, isHeard, consents, hear, pollCell}
 use Rattle.comms.specs.declared.WordsChange.the-variants.{Keep, Message}
 use Rattle.comms.specs.declared.Whom.the-variants.{EveryoneBut}
 use Rattle.comms.specs.Comms.{wordsOf, wordsAt, among, cellIndex}
@@ -96,7 +96,7 @@ moves-as r f e = record { moves = λ m new h. r .moves m new (f m h) ∙ e m new
 -- ---- telling
 
 module _ (kind : CallKind) (target next : ℕ) (m : Machine) where
-  pub told-one : next < maxCells → waitFor kind (record { target = target; cell = next; telling = true }) 2 m ≡ tellNext kind target next m
+  pub told-one : next < maxCells → waitFor kind (telling target next) 2 m ≡ tellNext kind target next m
   unfolding tellNext
   told-one h = rw (lt-ltb next maxCells h, tellNext)
 
@@ -133,13 +133,13 @@ module _ (kind : CallKind) (target : ℕ) (new : CellConfig) (m : Machine) where
   abbrev ask-next : ℕ → Stepped
   ask-next next =
       elim (ltb next noId) as (λ x. Stepped) [
-        | true ↦ waitFor kind (record { target = target; cell = next; telling = false }) shutdownRequest m
+        | true ↦ waitFor kind (asking target next) shutdownRequest m
         | false ↦ noneToAsk kind target new m
       ]
 
   module _ (after next : ℕ) (e : next ≡ nextToMessage (asks kind target) after m) where
     pub asks-one : next < maxCells
-        → waitFor kind (record { target = target; cell = next; telling = false }) shutdownRequest (effectOf NoEffect new m) ≡ ask kind target after new m
+        → waitFor kind (asking target next) shutdownRequest (effectOf NoEffect new m) ≡ ask kind target after new m
     unfolding ask effectOf
     asks-one h = (rw (lt-ltb next noId h, ask-next) refl) ∙ ap ask-next e
 

@@ -15,7 +15,7 @@ use Rattle.machine_state.specs.declared.Stepped.{Stepped}
 use Rattle.machine_state.specs.Machine.{maxCells}
 use Rattle.rules.specs.State.{commAt, noId, withWaiting, answered}
 use Rattle.rules.specs.Effects.{effect}
-use Rattle.rules.specs.Asking.{reconfigCompleted, waitFor, finished, endCode}
+use Rattle.rules.specs.Asking.{reconfigCompleted, telling, waitFor, finished, endCode}
 use Rattle.comms.specs.Comms.{wordsAt, cellIndex}
 use Rattle.unobeyed.specs.Admission.{waitedCell}
 use Rattle.asking.specs.declared.Effect.{Effect}
@@ -62,6 +62,6 @@ pub record Polls (live : ℕ) (table : List CommRegion) (w : CommRegion) (waitin
 unfoldable pub tellNext : CallKind → ℕ → ℕ → Machine → Stepped
 tellNext kind target next m =
     elim (ltb next noId) [
-      | true ↦ waitFor kind (record { target = target; cell = next; telling = true }) reconfigCompleted m
+      | true ↦ waitFor kind (telling target next) reconfigCompleted m
       | false ↦ finished (endCode kind target) m
     ]

@@ -25,9 +25,9 @@ use Rattle.rules.specs.State.{rootId, live, answered}
 use Rattle.rules.specs.Answers.{isUnobeyed}
 use Rattle.rules.specs.Effects.{effect, disabled}
 use Rattle.rules.specs.Create.{freeId}
-use Rattle.rules.specs.Asking.{asks, waitFor, finished, ask, poll, pollCell}
+use Rattle.rules.specs.Asking.{asks, asking, telling, waitFor, finished, ask, poll, pollCell}
 use Rattle.rules.specs.Calls.{call}
-use Rattle.rules.proofs.Cases.{asking, telling, ask-cases, call-cases, poll-asking, poll-telling}
+use Rattle.rules.proofs.Cases.{ask-cases, call-cases, poll-asking, poll-telling}
 use Rattle.history.specs.History.{Created, hasCell}
 use Rattle.reached.proofs.Table.{tableOf}
 use Rattle.reached.proofs.Sound.{IsCell, Fits}

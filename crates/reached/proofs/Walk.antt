@@ -24,7 +24,7 @@ use Rattle.rules.specs.State.{commAt, live, noId, withWaiting, withComm, answer
 use Rattle.rules.specs.Unobeyed.{isOn}
 use Rattle.rules.specs.Effects.{effect}
 use Rattle.rules.specs.Create.{otherCellLocked}
-use Rattle.rules.specs.Asking.{nextToMessage, asks, tells, everyCell, isDestroy, message, waitFor, finished, endCode, tell, carryOut, noneToAsk, ask, shutdownRequest, reconfigCompleted}
+use Rattle.rules.specs.Asking.{nextToMessage, asks, tells, everyCell, isDestroy, message, asking, telling, waitFor, finished, endCode, tell, carryOut, noneToAsk, ask, shutdownRequest, reconfigCompleted}
 use Rattle.rules.proofs.Ids.{by-test}
 use Rattle.history.specs.History.{Created, History, Ahead, Nothing, Effect, hasCome, come, cellsAfter, answeredBy, smallestFree}
 use Rattle.reached.specs.Kept.{waitedFor}
@@ -133,7 +133,7 @@ module _ (boot : SystemConfig) where
         next = nextToMessage everyCell after m
 
         stage : Stage
-        stage = record { target = target; cell = next; telling = true }
+        stage = telling target next
 
   -- ---- a call that asks, and its effect
 
@@ -201,4 +201,4 @@ module _ (boot : SystemConfig) where
         next = nextToMessage (asks kind target) after m
 
         stage : Stage
-        stage = record { target = target; cell = next; telling = false }
+        stage = asking target next

@@ -21,12 +21,12 @@ use Rattle.machine_state.specs.declared.Stepped.{Stepped}
 use Rattle.rules.specs.State.{rootId, withWaiting, answered}
 use Rattle.rules.specs.Effects.{counted, callCounter, exitCounter, stored, faulted}
 use Rattle.rules.specs.Create.{otherCellLocked, freeId}
-use Rattle.rules.specs.Asking.{isDestroy, waitFor, finished, ask, poll, pollCell}
+use Rattle.rules.specs.Asking.{isDestroy, asking, telling, waitFor, finished, ask, poll, pollCell}
 use Rattle.rules.specs.Calls.{call}
 use Rattle.rules.specs.Step.{obeyed, step}
 use Rattle.rules.specs.Answers.{isNegative, isUnobeyed}
 use Rattle.refusals.specs.AtOnce.{refusalLeaves, UnobeyedKeeps, RefusedAtOnce}
-use Rattle.rules.proofs.Cases.{asking, telling, word-cases, step-cases, ask-cases, call-cases, poll-asking, poll-telling}
+use Rattle.rules.proofs.Cases.{word-cases, step-cases, ask-cases, call-cases, poll-asking, poll-telling}
 
 -- ---- both claims of one step: where it answers a word it leaves `m`, where it answers a negative code it leaves `left`
 

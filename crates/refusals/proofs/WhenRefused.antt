@@ -27,13 +27,13 @@ use Rattle.rules.specs.State.{rootId, bootCpus, cpuAt, commAt, stateAt, live, a
 use Rattle.rules.specs.Queries.{getInfo, getState, cpuGetInfo}
 use Rattle.rules.specs.Effects.{counted, callCounter}
 use Rattle.rules.specs.Create.{someCellLocked, otherCellLocked, tooLong, invalid, nameInUse, busy, regionInUse, freeId, noRoom}
-use Rattle.rules.specs.Asking.{nextToMessage, asks, isDestroy, waitFor, finished, tell, carryOut, noneToAsk, ask, isHeard, consents, hear, pollCell, poll, shutdownRequest}
+use Rattle.rules.specs.Asking.{nextToMessage, asks, isDestroy, asking, waitFor, finished, tell, carryOut, noneToAsk, ask, isHeard, consents, hear, pollCell, poll, shutdownRequest}
 use Rattle.rules.specs.Calls.{cellCreate, cellStart, cellSetLoadable, cellDestroy, hypervisorGetInfo, cellGetState, cpuGetInfoCode, ends, disableCall, createCall, targetCall, callByCode, call}
 use Rattle.rules.specs.Step.{obeyed, step}
 use Rattle.rules.specs.Unobeyed.{isObeyed}
 use Rattle.rules.specs.Answers.{isNegative}
 use Rattle.refusals.specs.WhenRefused.{notRoot, rootsOnly, createRefused, targetRefused, infoRefused, stateRefused, cpuInfoRefused, callRefused, waitingRefused, refuses, NegativeIsRefusal}
-use Rattle.rules.proofs.Cases.{word-cases, step-cases, ask-cases, tell-cases, carry-cases, asking, telling}
+use Rattle.rules.proofs.Cases.{word-cases, step-cases, ask-cases, tell-cases, carry-cases}
 use Rattle.refusals.proofs.Kept.{counted-owner}
 
 negative : Stepped → Bool

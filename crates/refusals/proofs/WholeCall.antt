@@ -27,13 +27,13 @@ use Rattle.machine_state.specs.declared.Stepped.{Stepped}
 use Rattle.rules.specs.State.{rootId, waits, withWaiting, answered}
 use Rattle.rules.specs.Effects.{counted, callCounter, effect}
 use Rattle.rules.specs.Create.{otherCellLocked, freeId}
-use Rattle.rules.specs.Asking.{isDestroy, waitFor, finished, ask, poll, pollCell, shutdownRequest, reconfigCompleted}
+use Rattle.rules.specs.Asking.{isDestroy, asking, telling, waitFor, finished, ask, poll, pollCell, shutdownRequest, reconfigCompleted}
 use Rattle.rules.specs.Calls.{ends}
 use Rattle.rules.specs.Step.{obeyed, step}
 use Rattle.rules.specs.Run.{Line, Happened, run, isPoll}
 use Rattle.rules.specs.Answers.{isNegative, isUnobeyed, isCode, isWait}
 use Rattle.refusals.specs.WholeCall.{ownPolls, endsRefused, setAside, nowWaited, OnlyMessages, OwnStepsKeep, RefusedKeeps}
-use Rattle.rules.proofs.Cases.{asking, telling, word-cases, step-cases, ask-cases, call-cases, poll-asking, poll-telling}
+use Rattle.rules.proofs.Cases.{word-cases, step-cases, ask-cases, call-cases, poll-asking, poll-telling}
 use Rattle.refusals.proofs.Kept.{step-waits, message-only}
 
 -- a step of a run, of which `s` is what the event answered and left

@@ -15,7 +15,6 @@ use Rattle.cell_record.specs.declared.CellConfig.{CellConfig}
 use Rattle.cell_record.specs.CellRecord.{cellOf}
 use Rattle.machine_state.specs.declared.CallKind.{CallKind}
 use Rattle.machine_state.specs.declared.CallKind.the-variants.{Disable, Create, Start, SetLoadable, Destroy}
-use Rattle.machine_state.specs.declared.Stage.{Stage}
 use Rattle.machine_state.specs.declared.Event.{Event}
 use Rattle.machine_state.specs.declared.Event.the-variants.{Call, Store, Fault, Exit, Poll, Malformed}
 use Rattle.machine_state.specs.declared.Answer.{Answer}
@@ -26,7 +25,7 @@ use Rattle.rules.specs.State.{rootId, live, commAt, cellIds, noId, first
 use Rattle.rules.specs.Unobeyed.{unobeyed, isObeyed}
 use Rattle.rules.specs.Effects.{effect}
 use Rattle.rules.specs.Create.{someCellLocked, otherCellLocked, tooLong, invalid, nameInUse, busy, freeId, noRoom}
-use Rattle.rules.specs.Asking.{mayBeMessaged, nextToMessage, asks, tells, everyCell, isDestroy, waitFor, finished, endCode, tell, carryOut, noneToAsk, ask, isHeard, consents, hear, pollCell, shutdownRequest, reconfigCompleted}
+use Rattle.rules.specs.Asking.{mayBeMessaged, nextToMessage, asks, tells, everyCell, isDestroy, asking, telling, waitFor, finished, endCode, tell, carryOut, noneToAsk, ask, isHeard, consents, hear, pollCell, shutdownRequest, reconfigCompleted}
 use Rattle.rules.specs.Calls.{hypervisorDisable, cellCreate, cellStart, cellSetLoadable, cellDestroy, ends, disableCall, createCall, targetCall, callByCode, call}
 use Rattle.rules.specs.Step.{obeyed, step}
 use Rattle.rules.specs.Answers.{isUnobeyed}
@@ -114,12 +113,6 @@ next-later among after m h =
     (first-passes (λ id. ltb after id && among id && mayBeMessaged m id) cellIds h))
 
 -- ---- a call that tells
-
-abbrev pub asking : ℕ → ℕ → Stage
-asking target cell = record { target = target; cell = cell; telling = false }
-
-abbrev pub telling : ℕ → ℕ → Stage
-telling target cell = record { target = target; cell = cell; telling = true }
 
 end-code : (P : ℤ → Type 0) (kind : CallKind) (target : ℕ) → ((n : ℕ) → P (pos n)) → P (endCode kind target)
 unfolding endCode

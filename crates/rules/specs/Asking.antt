@@ -16,7 +16,7 @@ use Rattle.machine_state.specs.declared.Answer.the-variants.{Code, Wait, Idle}
 use Rattle.machine_state.specs.declared.Machine.{Machine}
 use Rattle.machine_state.specs.declared.Stepped.{Stepped}
 use Rattle.rules.specs.State.{commAt, cellIds, noId, first, active, isFinal, withWaiting, withComm, answered}
-use Rattle.rules.specs.Effects.{effect}
+use Rattle.rules.specs.Effects.{effect, withMessage, withReply}
 use Rattle.rules.specs.Create.{otherCellLocked}
 
 -- the messages and the consenting reply, by their names in source document 001
@@ -65,7 +65,14 @@ isDestroy Destroy = true
 
 -- "To message a cell: from becomes 0, then to becomes 1 (shutdown request) or 2 (reconfiguration completed)"
 unfoldable pub message : ℕ → CommRegion → CommRegion
-message code c = record { mapped = c .mapped; passive = c .passive; «msg_to_cell» = code; «reply_from_cell» = 0; «cell_state» = c .«cell_state» }
+message code c = withMessage code (withReply 0 c)
+
+-- the stage of a call that waits for a cell that it has asked, or told
+abbrev pub asking : ℕ → ℕ → Stage
+asking target cell = record { target = target; cell = cell; telling = false }
+
+abbrev pub telling : ℕ → ℕ → Stage
+telling target cell = record { target = target; cell = cell; telling = true }
 
 -- "message the next cell .. and wait for it"
 unfoldable pub waitFor : CallKind → Stage → ℕ → Machine → Stepped
@@ -89,7 +96,7 @@ unfoldable pub tell : CallKind → ℕ → ℕ → Machine → Stepped
 tell kind target after m =
     let next = nextToMessage everyCell after m in
     elim (ltb next noId) [
-      | true ↦ waitFor kind (record { target = target; cell = next; telling = true }) reconfigCompleted m
+      | true ↦ waitFor kind (telling target next) reconfigCompleted m
       | false ↦ finished (endCode kind target) m
     ]
 
@@ -108,7 +115,7 @@ unfoldable pub ask : CallKind → ℕ → ℕ → CellConfig → Machine → Ste
 ask kind target after new m =
     let next = nextToMessage (asks kind target) after m in
     elim (ltb next noId) [
-      | true ↦ waitFor kind (record { target = target; cell = next; telling = false }) shutdownRequest m
+      | true ↦ waitFor kind (asking target next) shutdownRequest m
       | false ↦ noneToAsk kind target new m
     ]
 

@@ -44,15 +44,21 @@ counted own cpu m = withCpu cpu (countExit own (cpuAt m cpu)) m
 
 -- ---- words
 
+-- the words with another message, reply or state
+abbrev pub withMessage : ℕ → CommRegion → CommRegion
+withMessage value c = record { mapped = c .mapped; passive = c .passive; «msg_to_cell» = value; «reply_from_cell» = c .«reply_from_cell»; «cell_state» = c .«cell_state» }
+
+abbrev pub withReply : ℕ → CommRegion → CommRegion
+withReply value c = record { mapped = c .mapped; passive = c .passive; «msg_to_cell» = c .«msg_to_cell»; «reply_from_cell» = value; «cell_state» = c .«cell_state» }
+
+abbrev pub withState : ℕ → CommRegion → CommRegion
+withState value c = record { mapped = c .mapped; passive = c .passive; «msg_to_cell» = c .«msg_to_cell»; «reply_from_cell» = c .«reply_from_cell»; «cell_state» = value }
+
 -- "store (any u32 to word 0, 1 or 2)"
 unfoldable pub storeWord : ℕ → ℕ → CommRegion → CommRegion
-storeWord zero value c = record { mapped = c .mapped; passive = c .passive; «msg_to_cell» = value; «reply_from_cell» = c .«reply_from_cell»; «cell_state» = c .«cell_state» }
-storeWord (suc zero) value c = record { mapped = c .mapped; passive = c .passive; «msg_to_cell» = c .«msg_to_cell»; «reply_from_cell» = value; «cell_state» = c .«cell_state» }
-storeWord (suc (suc n)) value c = record { mapped = c .mapped; passive = c .passive; «msg_to_cell» = c .«msg_to_cell»; «reply_from_cell» = c .«reply_from_cell»; «cell_state» = value }
-
--- the words with another state
-abbrev pub withState : ℕ → CommRegion → CommRegion
-withState state c = storeWord 2 state c
+storeWord zero value c = withMessage value c
+storeWord (suc zero) value c = withReply value c
+storeWord (suc (suc n)) value c = withState value c
 
 unfoldable pub stored : ℕ → ℕ → ℕ → Machine → Machine
 stored cpu word value m = let cell = cpuAt m cpu .cell in withComm cell (storeWord word value (commAt m cell)) m
@@ -142,7 +148,7 @@ inPhase id phase m = withCell id (withPhase phase (cellAt m id)) m
 
 -- "all three words 0"
 unfoldable pub clearWords : CommRegion → CommRegion
-clearWords c = record { mapped = c .mapped; passive = c .passive; «msg_to_cell» = 0; «reply_from_cell» = 0; «cell_state» = running }
+clearWords c = withState running (withReply 0 (withMessage 0 c))
 
 -- Start: "all three words 0, CPUs running and unfailed, phase started"
 unfoldable pub cellStarted : ℕ → Machine → Machine

@@ -22,7 +22,7 @@ use Rattle.machine_state.specs.declared.Stepped.{Stepped}
 use Rattle.rules.specs.State.{commAt, noId, live, withWaiting, answered}
 use Rattle.rules.specs.Effects.{effect}
 use Rattle.rules.specs.Create.{otherCellLocked}
-use Rattle.rules.specs.Asking.{mayBeMessaged, nextToMessage, everyCell, asks, tells, isDestroy, endCode, tell, waitFor, finished, carryOut, noneToAsk, ask, isHeard, consents, hear, pollCell, poll}
+use Rattle.rules.specs.Asking.{mayBeMessaged, nextToMessage, everyCell, asks, tells, isDestroy, endCode, asking, telling, tell, waitFor, finished, carryOut, noneToAsk, ask, isHeard, consents, hear, pollCell, poll}
 use Rattle.rules.specs.Account.{Account, Place, Asks, Tells, Ended, movesTo, stays, remains, nextShown, lastCode, tellOn, effectComes, noneLeftToAsk, askOn, heardBy, consentsBy, stateShown, polledAt, polled, answerAt, answerOf}
 use Rattle.rules.specs.Observer.{shownBy}
 use Rattle.rules.proofs.Ids.{first-same}
@@ -32,8 +32,8 @@ use Rattle.waiting.proofs.Machines.{AllWords, effect-may}
 
 -- the waiting call at a place of the account
 unfoldable pub waitingAt : CallKind → ℕ → Place → Waiting
-waitingAt kind target (Asks c) = Pending kind (record { target = target; cell = c; telling = false })
-waitingAt kind target (Tells c) = Pending kind (record { target = target; cell = c; telling = true })
+waitingAt kind target (Asks c) = Pending kind (asking target c)
+waitingAt kind target (Tells c) = Pending kind (telling target c)
 waitingAt kind target (Ended code) = NoCall
 
 abbrev pub waitingOf : Account → Waiting
@@ -136,7 +136,7 @@ module _ (kind : CallKind) (target : ℕ) (new : CellConfig) (m : Machine) (h : 
 
       go : (b : Bool)
           → _≡_ {A = Stepped}
-          (elim b [ true ↦ waitFor kind (record { target = target; cell = there; telling = false }) 1 m | false ↦ noneToAsk kind target new m ])
+          (elim b [ true ↦ waitFor kind (asking target there) 1 m | false ↦ noneToAsk kind target new m ])
           (stepFor (elim b [ true ↦ movesTo kind target false (Asks there) | false ↦ noneLeftToAsk kind target (shownBy m) ]) new m)
       go true = refl
       go false = none-moves

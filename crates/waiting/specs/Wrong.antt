@@ -6,7 +6,6 @@ use Prim.Native.Nat.{ℕ}
 use lib.Dec.{eqb}
 use lib.IntN.{pos}
 use Rattle.cell_record.specs.CellRecord.{cellOf}
-use Rattle.machine_state.specs.declared.CommRegion.{CommRegion}
 use Rattle.machine_state.specs.declared.Waiting.{Waiting}
 use Rattle.machine_state.specs.declared.Waiting.the-variants.{NoCall, Pending}
 use Rattle.machine_state.specs.declared.Event.the-variants.{Call, Store, Fault, Exit, Poll, Malformed}
@@ -14,7 +13,7 @@ use Rattle.machine_state.specs.declared.Machine.{Machine}
 use Rattle.machine_state.specs.declared.Stepped.{Stepped}
 use Rattle.rules.specs.State.{commAt, withComm, withWaiting, answered}
 use Rattle.rules.specs.Answers.{isNegative, isWait}
-use Rattle.rules.specs.Effects.{storeWord, cellDestroyed}
+use Rattle.rules.specs.Effects.{withMessage, withReply, cellDestroyed}
 use Rattle.rules.specs.Asking.{message, shutdownRequest, consents, isDestroy, tell, carryOut, ask, finished}
 use Rattle.rules.specs.Calls.{cellDestroy}
 use Rattle.rules.specs.Step.{step}
@@ -56,9 +55,6 @@ unfoldable pub endsEarly : Manager
 endsEarly = changed oursAtCall (λ bytes m s. elim (isWait (s .answer)) [ true ↦ finished (pos 0) m | false ↦ s ])
 
 -- ---- "Accepting a reply left from an earlier message because from was not cleared"
-abbrev pub withReply : ℕ → CommRegion → CommRegion
-withReply value c = storeWord 1 value c
-
 unfoldable pub replyKept : Machine → Stepped → Stepped
 replyKept m s =
     let id = waitedIn (s .machine) in
@@ -98,7 +94,7 @@ unfoldable pub changesBack : Manager
 changesBack =
     changed oursAtCall
     (λ bytes m s. leaving (isWait (s .answer) && not (eqb (waitedIn m) (waitedIn (s .machine))))
-    (withComm (waitedIn m) (storeWord 0 0 (withReply 0 (commAt (s .machine) (waitedIn m)))) (s .machine)) s)
+    (withComm (waitedIn m) (withMessage 0 (withReply 0 (commAt (s .machine) (waitedIn m)))) (s .machine)) s)
 
 -- ---- telling before the effect: Destroy tells once its target consents, and has its effect when all are told
 unfoldable pub tellsOn : Waiting → Machine → Stepped → Stepped
