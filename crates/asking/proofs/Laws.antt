@@ -1,16 +1,16 @@
 -- Moves as rules: words that are kept at place 0 stay as they are, and each way that the code takes is the rule's where its test holds.
 -- Assumes nothing.
-use mathlib.Core.Bool.{Bool, true, false, _&&_}
+use mathlib.Core.Bool.{Bool, true, false, not, _&&_, _||_, true≢false}
 use mathlib.Core.List.{List}
-use mathlib.Core.Path.{_≡_, refl, sym, ap, _∙_}
+use mathlib.Core.Path.{_≡_, refl, sym, ap, ap₂, subst, _∙_}
 use mathlib.Core.Logic.{⊎-elim}
-use Prim.Native.Nat.{ℕ, _<_, _≤_}
+use Prim.Native.Nat.{ℕ, _+_, _^_, _<_, _≤_}
 use native.Mathlib.Omega.{arith}
-use borrow.Author.Tests.{ltb-true, lt-ltb, le-ltb}
-use lib.Dec.{ltb}
+use borrow.Author.Tests.{ltb-true, lt-ltb, le-ltb, leb-false, eq-eqb, ne-eqb}
+use lib.Dec.{leb, ltb, eqb}
 use lib.IntN.{ℤ, pos}
-use lib.ListN.{length, List·getD-eq-default}
-use lib.Seq.{set-getD}
+use lib.ListN.{length, set, List·getD-eq-default}
+use lib.Seq.{set-getD, getD-set-same}
 use Rattle.base.specs.Rules.{EPERM}
 use Rattle.base.proofs.Tests.{is-true, holds, and-left, and-right, le-or-lt}
 use Rattle.cell_record.specs.declared.CellConfig.{CellConfig}
@@ -24,18 +24,19 @@ use Rattle.machine_state.specs.declared.Stepped.{Stepped}
 use Rattle.machine_state.specs.declared.Waiting.{Waiting}
 use Rattle.machine_state.specs.declared.Waiting.the-variants.{NoCall, Pending}
 use Rattle.machine_state.specs.Machine.{pastComm, commIn, maxCells}
-use Rattle.rules.specs.State.{commAt, noId, withComm, withWaiting, answered}
+use Rattle.rules.specs.State.{commAt, limitAt, noId, failed, withCpus, withComm, withWaiting, answered}
 use Rattle.rules.specs.Create.{otherCellLocked}
-use Rattle.rules.specs.Effects.{effect}
-use Rattle.rules.specs.Asking.{nextToMessage, asks, tells, everyCell, isDestroy, shutdownRequest, asking, telling, waitFor, finished, endCode, tell, carryOut, noneToAsk, ask, isHeard, consents, hear, pollCell}
-use Rattle.comms.specs.declared.WordsChange.the-variants.{Keep, Message}
+use Rattle.rules.specs.Effects.{effect, storeWord, withState, cpusChanged, cellCutOff}
+use Rattle.rules.specs.Asking.{nextToMessage, asks, tells, everyCell, isDestroy, shutdownRequest, asking, telling, waitFor, finished, endCode, tell, carryOut, noneToAsk, ask, isHeard, consents, hear, isLastPoll, pollsAfter, withPolls, cutsOff, hearsAt, heardAt, stillWaits, pollCell}
+use Rattle.comms.specs.declared.WordsChange.the-variants.{Keep, Store, Message}
 use Rattle.comms.specs.declared.Whom.the-variants.{EveryoneBut}
 use Rattle.comms.specs.Comms.{wordsOf, wordsAt, among, cellIndex}
 use Rattle.comms.proofs.Laws.{cell-inside}
 use Rattle.asking.specs.declared.Effect.{Effect}
 use Rattle.asking.specs.declared.Effect.the-variants.{NoEffect, Comes}
 use Rattle.asking.specs.declared.Move.{Move}
-use Rattle.asking.specs.Moves.{effectOf, moved, Moves, AnyMachine, tellNext}
+use Rattle.asking.specs.declared.Polled.{Polled}
+use Rattle.asking.specs.Moves.{effectOf, moved, Moves, AnyMachine, Hears, LimitFor, cutOffAt, PollMoves, tellNext}
 use Rattle.asking.proofs.Told.{told-after}
 
 -- ---- moves
@@ -96,7 +97,7 @@ moves-as r f e = record { moves = λ m new h. r .moves m new (f m h) ∙ e m new
 -- ---- telling
 
 module _ (kind : CallKind) (target next : ℕ) (m : Machine) where
-  pub told-one : next < maxCells → waitFor kind (telling target next) 2 m ≡ tellNext kind target next m
+  pub told-one : next < maxCells → waitFor kind (telling target next 0) 2 m ≡ tellNext kind target next m
   unfolding tellNext
   told-one h = rw (lt-ltb next maxCells h, tellNext)
 
@@ -133,13 +134,13 @@ module _ (kind : CallKind) (target : ℕ) (new : CellConfig) (m : Machine) where
   abbrev ask-next : ℕ → Stepped
   ask-next next =
       elim (ltb next noId) as (λ x. Stepped) [
-        | true ↦ waitFor kind (asking target next) shutdownRequest m
+        | true ↦ waitFor kind (asking target next 0) shutdownRequest m
         | false ↦ noneToAsk kind target new m
       ]
 
   module _ (after next : ℕ) (e : next ≡ nextToMessage (asks kind target) after m) where
     pub asks-one : next < maxCells
-        → waitFor kind (asking target next) shutdownRequest (effectOf NoEffect new m) ≡ ask kind target after new m
+        → waitFor kind (asking target next 0) shutdownRequest (effectOf NoEffect new m) ≡ ask kind target after new m
     unfolding ask effectOf
     asks-one h = (rw (lt-ltb next noId h, ask-next) refl) ∙ ap ask-next e
 
@@ -174,6 +175,9 @@ module _ (m : Machine) (cell : ℕ) (words : CommRegion) (flag : Bool) (w : comm
       within : cell < maxCells → isHeard (commAt m cell) ≡ false
       within h = seen isHeard m cell words flag false (ap (commAt m) (sym (cell-inside cell h)) ∙ w) f (rw (lt-ltb cell maxCells h) at t)
 
+pub inside-words : (m : Machine) (cell : ℕ) (words : CommRegion) → cell < maxCells → commAt m (cellIndex cell) ≡ words → commAt m cell ≡ words
+inside-words m cell words h w = ap (commAt m) (sym (cell-inside cell h)) ∙ w
+
 module _ (kind : CallKind) (stage : Stage) (new : CellConfig) (m : Machine) where
   pub heard-telling : stage .telling ≡ true → tell kind (stage .target) (stage .cell) m ≡ hear kind stage new m
   unfolding hear
@@ -188,10 +192,122 @@ module _ (kind : CallKind) (stage : Stage) (new : CellConfig) (m : Machine) wher
     unfolding hear effectOf
     heard-denial t = rw (asking, hear, t)
 
-  pub polled-heard : isHeard (commAt m (stage .cell)) ≡ true → hear kind stage new m ≡ pollCell kind stage new m
-  unfolding pollCell
-  polled-heard t = rw (t, pollCell)
+-- ---- a poll
 
-  pub polled-unheard : isHeard (commAt m (stage .cell)) ≡ false → answered (Wait (stage .cell)) m ≡ pollCell kind stage new m
-  unfolding pollCell
-  polled-unheard t = rw (t, pollCell)
+-- a move with no cell cut off
+pub moves-uncut : {has : Machine → Type 0} {rule : CellConfig → Machine → Stepped} {mv : Move} → Moves has rule mv
+    → PollMoves has rule (record { cut = 16; moves = mv })
+unfolding cutOffAt
+moves-uncut r = record { moves = λ m new h. r .moves m new h; place = r .place }
+
+pub poll-as : {has one : Machine → Type 0} {rule first : CellConfig → Machine → Stepped} {p : Polled} → PollMoves one first p
+    → ((m : Machine) → has m → one m) → ((m : Machine) (new : CellConfig) → has m → first new m ≡ rule new m) → PollMoves has rule p
+poll-as r f e = record { moves = λ m new h. r .moves m new (f m h) ∙ e m new h; place = r .place }
+
+-- the count, and nothing else
+pub counts : (kind : CallKind) (stage : Stage) (limit polls : ℕ) → polls ≡ pollsAfter limit (stage .polls)
+    → Moves (λ m. limitAt m (stage .cell) ≡ limit) (λ new m. answered (Wait (stage .cell)) (stillWaits kind stage m))
+    (record {
+      answer = Wait (stage .cell);
+      effect = NoEffect;
+      cell = 0;
+      words = Keep;
+      waiting = Pending kind (record { target = stage .target; cell = stage .cell; telling = stage .telling; polls = polls });
+    })
+unfolding effectOf stillWaits withPolls
+counts kind stage limit polls e = record {
+  moves = λ m new l. moved-kept (Wait (stage .cell)) NoEffect _ m new
+      ∙ ap (λ (n : ℕ). answered (Wait (stage .cell)) (withWaiting (withPolls n (Pending kind stage)) m)) (e ∙ ap (λ (n : ℕ). pollsAfter n (stage .polls)) (sym l));
+  place = omega arith;
+}
+
+-- the cell is cut off: what is decided from its words, failed, is so of the machine without it
+pub cuts : (live : ℕ) (table : List CommRegion) (w changed : CommRegion) (kind : CallKind) (stage : Stage) (mv : Move) → stage .cell < maxCells
+    → length table ≡ maxCells → changed ≡ wordsOf (Store 2 failed) w
+    → Moves (Hears live (set table (stage .cell) changed) changed stage) (hear kind stage) mv
+    → PollMoves (Hears live table w stage) (λ new m. hear kind stage new (cellCutOff (stage .cell) m)) (record { cut = stage .cell; moves = mv })
+unfolding cutOffAt wordsOf storeWord cellCutOff cpusChanged withCpus withComm
+cuts live table w changed kind stage mv inside size e r = record {
+  moves = λ m new h. ap (λ (b : Bool). moved mv new (elim b [ true ↦ cellCutOff (stage .cell) m | false ↦ m ])) (lt-ltb (stage .cell) maxCells inside)
+      ∙ r .moves _ new (on m h);
+  place = r .place;
+}
+  where
+    same : (m : Machine) → Hears live table w stage m → withState failed (commAt m (stage .cell)) ≡ changed
+    same m h = ap (withState failed) (h .words) ∙ sym e
+
+    on : (m : Machine) → Hears live table w stage m → Hears live (set table (stage .cell) changed) changed stage (cellCutOff (stage .cell) m)
+    on m h = record {
+      parts = record {
+        ids = h .parts .ids;
+        words = ap (λ (c : CommRegion). set (m .comms) (stage .cell) c) (same m h) ∙ ap (λ (l : List CommRegion). set l (stage .cell) changed) (h .parts .words);
+      };
+      words =
+          getD-set-same (m .comms) (stage .cell) _ pastComm (subst (λ (n : ℕ). stage .cell < n) (sym (ap length (h .parts .words) ∙ size)) inside)
+          ∙ same m h;
+    }
+
+module _ (kind : CallKind) (stage : Stage) (new : CellConfig) (m : Machine) where
+  -- the poll, by whether the cell is heard, and by whether this is its last
+  abbrev pollBy : Bool → Bool → Stepped
+  pollBy heard last =
+      elim (heard || (not heard && last)) [
+        | true ↦ hear kind stage new (elim (not heard && last) [ true ↦ cellCutOff (stage .cell) m | false ↦ m ])
+        | false ↦ answered (Wait (stage .cell)) (stillWaits kind stage m)
+      ]
+
+  poll-by : (heard last : Bool) → isHeard (commAt m (stage .cell)) ≡ heard → isLastPoll (limitAt m (stage .cell)) (stage .polls) ≡ last
+      → pollBy heard last ≡ pollCell kind stage new m
+  unfolding pollCell hearsAt heardAt cutsOff
+  poll-by heard last e f = sym (ap₂ (λ (x y : Bool). pollBy x y) e f)
+
+  pub polled-heard : isHeard (commAt m (stage .cell)) ≡ true → hear kind stage new m ≡ pollCell kind stage new m
+  polled-heard e = poll-by true (isLastPoll (limitAt m (stage .cell)) (stage .polls)) e refl
+
+  pub polled-last : isHeard (commAt m (stage .cell)) ≡ false → isLastPoll (limitAt m (stage .cell)) (stage .polls) ≡ true
+      → hear kind stage new (cellCutOff (stage .cell) m) ≡ pollCell kind stage new m
+  polled-last e f = poll-by false true e f
+
+  pub polled-unheard : isHeard (commAt m (stage .cell)) ≡ false → isLastPoll (limitAt m (stage .cell)) (stage .polls) ≡ false
+      → answered (Wait (stage .cell)) (stillWaits kind stage m) ≡ pollCell kind stage new m
+  polled-unheard e f = poll-by false false e f
+
+-- the count, by whether there is a limit; a poll that is not the last leaves room for it
+module _ (limit polls : ℕ) where
+  pub uncounted : limit ≡ 0 → polls ≡ pollsAfter limit polls
+  unfolding pollsAfter
+  uncounted e = sym (ap (λ (b : Bool). elim b [ true ↦ polls | false ↦ polls + 1 ]) (eq-eqb limit 0 e))
+
+  pub one-more : (limit ≡ 0 → ⊥) → polls + 1 ≡ pollsAfter limit polls
+  unfolding pollsAfter
+  one-more n = sym (ap (λ (b : Bool). elim b [ true ↦ polls | false ↦ polls + 1 ]) (ne-eqb limit 0 n))
+
+  pub count-fits : isLastPoll limit polls ≡ false → (limit ≡ 0 → ⊥) → limit < 2 ^ 16 → polls + 1 < 2 ^ 16
+  unfolding isLastPoll
+  count-fits e n small =
+      let below : polls + 1 < limit = leb-false limit (polls + 1) (sym (ap (λ (b : Bool). not b && leb limit (polls + 1)) (ne-eqb limit 0 n)) ∙ e) in
+      omega (arith, below, small)
+
+-- the limit of a cell of the table is that of its words, and past the table's end there is none
+module _ (cell : ℕ) (w : CommRegion) where
+  pub limit-inside : cell < maxCells → LimitFor cell w (w .«reply_limit»)
+  limit-inside h = record {
+    own = λ m l e. sym (ap (λ (c : CommRegion). c .«reply_limit») (ap (commAt m) (sym (cell-inside cell h)) ∙ e));
+    past = λ k. absurd (omega (arith, h, k));
+  }
+
+  pub limit-past : maxCells ≤ cell → LimitFor cell w 0
+  limit-past h = record { own = λ m l e. none m l; past = λ k. refl }
+    where
+      none : (m : Machine) → length (m .comms) ≡ maxCells → 0 ≡ limitAt m cell
+      none m l =
+          let short : length (m .comms) ≤ cell = omega (arith, l, h) in
+          sym (ap (λ (c : CommRegion). c .«reply_limit») (List·getD-eq-default (m .comms) pastComm short))
+
+  -- a limit whose last poll comes is that of a cell of the table
+  pub last-inside : (limit polls : ℕ) → LimitFor cell w limit → isLastPoll limit polls ≡ true → cell < maxCells
+  unfolding isLastPoll
+  last-inside limit polls f e = ⊎-elim past (λ h. h) (le-or-lt maxCells cell)
+    where
+      past : maxCells ≤ cell → cell < maxCells
+      past h = absurd (true≢false (sym e ∙ ap (λ (n : ℕ). not (eqb n 0) && leb n (polls + 1)) (f .past h)))

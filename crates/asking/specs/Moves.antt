@@ -3,8 +3,9 @@
 use mathlib.Core.Bool.{true, false}
 use mathlib.Core.List.{List}
 use mathlib.Core.Path.{_≡_}
-use Prim.Native.Nat.{ℕ, _<_}
+use Prim.Native.Nat.{ℕ, _≤_, _<_}
 use lib.Dec.{ltb}
+use lib.ListN.{length}
 use Rattle.cell_record.specs.declared.CellConfig.{CellConfig}
 use Rattle.machine_state.specs.declared.CommRegion.{CommRegion}
 use Rattle.machine_state.specs.declared.CallKind.{CallKind}
@@ -13,14 +14,15 @@ use Rattle.machine_state.specs.declared.Waiting.{Waiting}
 use Rattle.machine_state.specs.declared.Machine.{Machine}
 use Rattle.machine_state.specs.declared.Stepped.{Stepped}
 use Rattle.machine_state.specs.Machine.{maxCells}
-use Rattle.rules.specs.State.{commAt, noId, withWaiting, answered}
-use Rattle.rules.specs.Effects.{effect}
+use Rattle.rules.specs.State.{commAt, limitAt, noId, withWaiting, answered}
+use Rattle.rules.specs.Effects.{effect, cellCutOff}
 use Rattle.rules.specs.Asking.{reconfigCompleted, telling, waitFor, finished, endCode}
 use Rattle.comms.specs.Comms.{wordsAt, cellIndex}
 use Rattle.unobeyed.specs.Admission.{waitedCell}
 use Rattle.asking.specs.declared.Effect.{Effect}
 use Rattle.asking.specs.declared.Effect.the-variants.{NoEffect, Comes}
 use Rattle.asking.specs.declared.Move.{Move}
+use Rattle.asking.specs.declared.Polled.{Polled}
 
 unfoldable pub effectOf : Effect → CellConfig → Machine → Machine
 effectOf NoEffect new m = m
@@ -58,10 +60,24 @@ pub record Polls (live : ℕ) (table : List CommRegion) (w : CommRegion) (waitin
   pub waits : m .waiting ≡ waiting
   pub words : commAt m (cellIndex (waitedCell waiting)) ≡ w
 
+-- the limit of a cell, from the words at its place; there is none past the table's end
+pub record LimitFor (cell : ℕ) (w : CommRegion) (limit : ℕ) : Type 0 where
+  pub own : (m : Machine) → length (m .comms) ≡ maxCells → commAt m (cellIndex cell) ≡ w → limit ≡ limitAt m cell
+  pub past : maxCells ≤ cell → limit ≡ 0
+
+-- a poll cuts a cell off, or none: a number past the table names none
+unfoldable pub cutOffAt : ℕ → Machine → Machine
+cutOffAt cut m = elim (ltb cut maxCells) [ true ↦ cellCutOff cut m | false ↦ m ]
+
+-- a poll is what a rule says: the cell cut off first, then the move
+pub record PollMoves (has : Machine → Type 0) (rule : CellConfig → Machine → Stepped) (p : Polled) : Type 0 where
+  pub moves : (m : Machine) (new : CellConfig) → has m → moved (p .moves) new (cutOffAt (p .cut) m) ≡ rule new m
+  pub place : p .moves .cell < maxCells
+
 -- telling the cell `next`, or with none left the call's end
 unfoldable pub tellNext : CallKind → ℕ → ℕ → Machine → Stepped
 tellNext kind target next m =
     elim (ltb next noId) [
-      | true ↦ waitFor kind (telling target next) reconfigCompleted m
+      | true ↦ waitFor kind (telling target next 0) reconfigCompleted m
       | false ↦ finished (endCode kind target) m
     ]

@@ -1,20 +1,24 @@
 // Asking cells, telling them, and hearing their replies: what a call that asks, or a poll, does,
 // decided from the live IDs, the words and the waiting call alone.
 ghost use mathlib.Core.Path.{_≡_};
+ghost use mathlib.Core.Bool.{false};
 ghost use Prim.Native.Nat.{ℕ, _<_};
-ghost use Rattle.rules.specs.State.{answered};
-ghost use Rattle.rules.specs.Asking.{asks, tells as tells-of, isDestroy, endCode, waitFor, finished, carryOut, noneToAsk, ask as ask-of, hear as hear-of, pollCell, poll as poll-of};
+ghost use Rattle.rules.specs.State.{limitAt, answered};
+ghost use Rattle.rules.specs.Effects.{cellCutOff};
+ghost use Rattle.rules.specs.Asking.{asks, tells as tells-of, isDestroy, endCode, waitFor, finished, carryOut, noneToAsk, ask as ask-of, hear as hear-of, isLastPoll, pollsAfter, stillWaits, pollCell, poll as poll-of};
 ghost use Rattle.comms.specs.Comms.{among};
-ghost use Rattle.asking.specs.Moves.{effectOf, AnyMachine, WithWords, Hears, Polls, tellNext, Moves};
+ghost use Rattle.asking.specs.Moves.{effectOf, AnyMachine, WithWords, Hears, Polls, tellNext, Moves, LimitFor, PollMoves};
 use base::EPERM;
 use comms::Whom;
 use comms::WordsChange;
 use machine_state::Answer;
 use machine_state::CallKind;
 use machine_state::CommRegion;
+use machine_state::FAILED;
 use machine_state::MAX_CELLS;
 use machine_state::RECONFIG_COMPLETED;
 use machine_state::SHUTDOWN_REQUEST;
+use machine_state::STATE_WORD;
 use machine_state::Stage;
 use machine_state::Waiting;
 
@@ -97,6 +101,7 @@ fn tell_next(kind: CallKind, target: usize, next: usize, effect: Effect) -> Move
             target,
             cell: next,
             telling: true,
+            polls: 0,
         };
         wait_for(kind, stage, RECONFIG_COMPLETED, effect)
     } else {
@@ -184,6 +189,7 @@ pub fn ask(
             target,
             cell: next,
             telling: false,
+            polls: 0,
         };
         wait_for(kind, stage, SHUTDOWN_REQUEST, Effect::NoEffect)
     } else {
@@ -214,6 +220,76 @@ fn hear(
     }
 }
 
+// Whether the poll that comes after `polls` others is the last that a limit allows.
+fn is_last_poll(limit: u16, polls: u16) -> bool
+    ensures { λ r. ⌜ r ≡ isLastPoll limit polls ⌝ }
+{
+    !(limit == 0) & (limit as u32 <= polls as u32 + 1)
+}
+
+// The reply limit of the cell `cell`, at whose place the words `w` stand; none past the table's end.
+fn limit_for(cell: usize, w: CommRegion) -> u16
+    ensures { λ r. ⌜ LimitFor cell w r ⌝ }
+{
+    if cell < MAX_CELLS { w.reply_limit } else { 0 }
+}
+
+// The count after a poll that is not the last, where there is a limit.
+fn polls_after(limit: u16, polls: u16) -> u16
+    requires { ⌜ isLastPoll limit polls ≡ false ⌝ }
+    ensures { λ r. ⌜ r ≡ pollsAfter limit polls ⌝ }
+{
+    if limit == 0 { polls } else { polls + 1 }
+}
+
+// A poll that hears nothing and is not the last: it is counted, where there is a limit.
+fn still_waits(kind: CallKind, stage: Stage, limit: u16) -> Move
+    requires { ⌜ isLastPoll limit (stage .polls) ≡ false ⌝ }
+    ensures { λ r. ⌜ Moves (λ m. limitAt m (stage .cell) ≡ limit) (λ new m. answered (Answer.Wait (stage .cell)) (stillWaits kind stage m)) r ⌝ }
+{
+    let cell = stage.cell;
+    let next = Stage {
+        target: stage.target,
+        cell,
+        telling: stage.telling,
+        polls: polls_after(limit, stage.polls),
+    };
+    Move {
+        answer: Answer::Wait(cell),
+        effect: Effect::NoEffect,
+        cell: 0,
+        words: WordsChange::Keep,
+        waiting: Waiting::Pending(kind, next),
+    }
+}
+
+// What a poll does: the cell that its limit cuts off, `MAX_CELLS` for none, and then the move.
+pub struct Polled {
+    pub cut: usize,
+    pub moves: Move,
+}
+
+// A poll at which the cell waited for, whose words are `w`, is cut off, and then heard as final.
+fn cut_off(
+    live_ids: u16,
+    comms: [CommRegion; MAX_CELLS],
+    w: CommRegion,
+    kind: CallKind,
+    stage: Stage,
+) -> Polled
+    requires { ⌜ stage .cell < 16 ⌝ }
+    ensures { λ r. ⌜ PollMoves (Hears «live_ids» comms w stage) (λ new m. hear-of kind stage new (cellCutOff (stage .cell) m)) r ⌝ }
+{
+    let cell = stage.cell;
+    let failed = comms::change_words(w, WordsChange::Store(STATE_WORD, FAILED));
+    let mut table = comms;
+    table[cell] = failed;
+    Polled {
+        cut: cell,
+        moves: hear(live_ids, table, failed, kind, stage),
+    }
+}
+
 // A poll of a waiting call: looks at the cell waited for, at whose place the words `w` stand.
 fn poll_cell(
     live_ids: u16,
@@ -221,23 +297,41 @@ fn poll_cell(
     w: CommRegion,
     kind: CallKind,
     stage: Stage,
-) -> Move
-    ensures { λ r. ⌜ Moves (Polls «live_ids» comms w (Waiting.Pending kind stage)) (pollCell kind stage) r ⌝ }
+) -> Polled
+    ensures { λ r. ⌜ PollMoves (Polls «live_ids» comms w (Waiting.Pending kind stage)) (pollCell kind stage) r ⌝ }
 {
     let cell = stage.cell;
+    let limit = limit_for(cell, w);
+    let last = is_last_poll(limit, stage.polls);
     if (cell < MAX_CELLS) & comms::is_heard(w) {
-        hear(live_ids, comms, w, kind, stage)
-    } else {
-        stay(Answer::Wait(cell), Waiting::Pending(kind, stage))
+        return Polled {
+            cut: MAX_CELLS,
+            moves: hear(live_ids, comms, w, kind, stage),
+        };
+    }
+    if last {
+        return cut_off(live_ids, comms, w, kind, stage);
+    }
+    Polled {
+        cut: MAX_CELLS,
+        moves: still_waits(kind, stage, limit),
     }
 }
 
 // A poll; at the place of the cell waited for, if one is, the words `w` stand.
-pub fn poll(live_ids: u16, comms: [CommRegion; MAX_CELLS], w: CommRegion, waiting: Waiting) -> Move
-    ensures { λ r. ⌜ Moves (Polls «live_ids» comms w waiting) (poll-of waiting) r ⌝ }
+pub fn poll(
+    live_ids: u16,
+    comms: [CommRegion; MAX_CELLS],
+    w: CommRegion,
+    waiting: Waiting,
+) -> Polled
+    ensures { λ r. ⌜ PollMoves (Polls «live_ids» comms w waiting) (poll-of waiting) r ⌝ }
 {
     match waiting {
-        Waiting::NoCall => stay(Answer::Idle, waiting),
+        Waiting::NoCall => Polled {
+            cut: MAX_CELLS,
+            moves: stay(Answer::Idle, waiting),
+        },
         Waiting::Pending(kind, stage) => poll_cell(live_ids, comms, w, kind, stage),
     }
 }

@@ -17,11 +17,13 @@ use Rattle.system_record.specs.SystemRecord.{bootRegions}
 use Rattle.cell_record.specs.declared.CellConfig.{CellConfig}
 use Rattle.cell_record.specs.declared.CellRead.{CellRead}
 
--- the values at their offsets: "6 u16 flags (bit 0 passive, others zero), 8 name, 40 u64 CPUs, 48 u16 region count .., 56 regions"
+-- the values at their offsets: "6 u16 flags (bit 0 passive, others zero), 8 name, 40 u64 CPUs, 48 u16 region count .., 56 regions". C-14: "Cell
+-- record version 2 uses bytes 50 and 51 as a limit L in polls; 0 means none"
 unfoldable pub cellOf : List ℕ → CellConfig
 cellOf r = record {
   name = padded 32 (part 8 32 r);
   passive = eqb (u16 6 r % 2) 1;
+  «reply_limit» = u16 50 r;
   cpus = u64 40 r;
   «region_count» = u16 48 r;
   regions = tableOf maxRegions 56 (u16 48 r) r;
@@ -31,16 +33,25 @@ cellOf r = record {
 abbrev pub longest : ℕ
 longest = 56 + 32 * maxRegions
 
--- "mark `TSC`, 4 u16 version 1, 6 u16 flags (bit 0 passive, others zero)", "region count 0.." to the limit, "All unnamed bytes are zero",
+-- C-14: "Version 1 records are still read, with L = 0, and other versions stay -22"
+unfoldable pub versionOk : List ℕ → Bool
+versionOk r = eqb (u16 4 r) 1 || eqb (u16 4 r) 2
+
+-- "All unnamed bytes are zero": 52 to 55, and in version 1, which has no limit, 50 and 51 too
+unfoldable pub limitOk : List ℕ → Bool
+limitOk r = eqb (u16 4 r) 2 || zeros (part 50 2 r)
+
+-- "mark `TSC`, 4 u16 version .., 6 u16 flags (bit 0 passive, others zero)", "region count 0.." to the limit, "All unnamed bytes are zero",
 -- "Length is 56 + 32n"
 unfoldable pub cellForm : List ℕ → Bool
 cellForm r =
     same (take 3 r) (0x54 ∷ 0x53 ∷ 0x43 ∷ [])
     && zeros (part 3 1 r)
-    && eqb (u16 4 r) 1
+    && versionOk r
     && ltb (u16 6 r) 2
     && leb (u16 48 r) maxRegions
-    && zeros (part 50 6 r)
+    && limitOk r
+    && zeros (part 52 4 r)
     && eqb (length r) (56 + 32 * u16 48 r)
 
 -- a cell's region, as document 01 has it: the rules of a region; "None (comm aside) overlaps hypervisor memory"; "A loadable or shared region

@@ -7,7 +7,7 @@ ghost use Rattle.base.specs.Lists.{all, any};
 ghost use Rattle.fields.specs.Fields.{u16 as u16-of};
 ghost use Rattle.regions.specs.Regions.{comm};
 ghost use Rattle.region_table.specs.Tables.{maxRegions, regionAt};
-ghost use Rattle.cell_record.specs.CellRecord.{cellOf, cellForm, cellRegions, regionRules, cellRegionOk, cellValid, cellAnswer, readCell};
+ghost use Rattle.cell_record.specs.CellRecord.{cellOf, versionOk, limitOk, cellForm, cellRegions, regionRules, cellRegionOk, cellValid, cellAnswer, readCell};
 use base::E2BIG;
 use base::EINVAL;
 use region_table::MAX_REGIONS;
@@ -17,10 +17,11 @@ use system_record::SystemConfig;
 // The longest cell record, in bytes.
 pub const MAX_LENGTH: usize = 56 + 32 * MAX_REGIONS;
 
-// The values of a cell record.
+// The values of a cell record. The reply limit is in polls, 0 for none.
 pub struct CellConfig {
     pub name: [u8; 32],
     pub passive: bool,
+    pub reply_limit: u16,
     pub cpus: u64,
     pub region_count: usize,
     pub regions: [MemRegion; MAX_REGIONS],
@@ -49,10 +50,26 @@ pub fn cell_of(s: &[u8]) -> CellConfig
     CellConfig {
         name,
         passive: fields::u16_at(s, 6) % 2 == 1,
+        reply_limit: fields::u16_at(s, 50),
         cpus: fields::u64_at(s, 40),
         region_count: count,
         regions,
     }
+}
+
+// Whether the record's version is one that is read.
+fn version_ok(s: &[u8]) -> bool
+    ensures { λ r. ⌜ r ≡ versionOk (now (s .entry)) ⌝ }
+{
+    let version = fields::u16_at(s, 4);
+    (version == 1) | (version == 2)
+}
+
+// Whether the reply limit's bytes are zero where the version has none.
+fn limit_ok(s: &[u8]) -> bool
+    ensures { λ r. ⌜ r ≡ limitOk (now (s .entry)) ⌝ }
+{
+    (fields::u16_at(s, 4) == 2) | fields::is_zero(fields::part(s, 50, 2))
 }
 
 // Whether the record has the form of a cell record.
@@ -62,10 +79,11 @@ pub fn cell_form(s: &[u8]) -> bool
     let n = fields::u16_at(s, 48) as usize;
     fields::has_mark(s, b"TSC")
         & fields::is_zero(fields::part(s, 3, 1))
-        & (fields::u16_at(s, 4) == 1)
+        & version_ok(s)
         & (fields::u16_at(s, 6) < 2)
         & (n <= MAX_REGIONS)
-        & fields::is_zero(fields::part(s, 50, 6))
+        & limit_ok(s)
+        & fields::is_zero(fields::part(s, 52, 4))
         & (s.len() == 56 + 32 * n)
 }
 

@@ -21,7 +21,7 @@ use Rattle.machine_state.specs.declared.Waiting.{Waiting}
 use Rattle.machine_state.specs.declared.Machine.{Machine}
 use Rattle.machine_state.specs.Machine.{freshCpu, noCell, cpuIn, pastCpu, pastCell}
 use Rattle.rules.specs.State.{rootId, cellIds, cellAt, cpuAt, hasId, live, withWaiting, withPower, withPool, withIds, withRootCpus, withCell, withComm, withCpus}
-use Rattle.rules.specs.Effects.{changeIn, changeCpus, cpusChanged, startCpu, stopCpu, givenTo, newCell, cellCreated, inPhase, cellStarted, cellLoadable, cellDestroyed, allDestroyed, disabled}
+use Rattle.rules.specs.Effects.{changeIn, changeCpus, cpusChanged, startCpu, stopCpu, givenTo, newCell, cellCreated, inPhase, cellStarted, cellLoadable, cellCutOff, cellDestroyed, allDestroyed, disabled}
 use Rattle.rules.proofs.Ids.{by-test, has-added, has-dropped, any-from-true}
 
 -- ---- one place of a list of IDs
@@ -164,6 +164,14 @@ module _ (k : ℕ) (below : k < 64) where
   unfolding cellLoadable inPhase cpusChanged withCell withCpus withComm stopCpu
   loadable-resets id m =
       resets-none k (countersOf k m) m (cellLoadable id m) refl
+      (ap (λ (p : Cpu). p .counters) (changed-at (cellAt m id .cpus) stopCpu k (m .cpus) below) ∙ kept-in (cellAt m id .cpus) stopCpu k (cpuAt m k) refl)
+
+  -- ---- a cell cut off: what comes after it, of the machine before it
+
+  pub cut-resets : (id : ℕ) (m n : Machine) → Resets k (countersOf k (cellCutOff id m)) (cellCutOff id m) n → Resets k (countersOf k m) m n
+  unfolding cellCutOff cpusChanged withCpus withComm stopCpu livesOnly
+  cut-resets id m n r =
+      r ∙ ap (orZeros (changesHands k m n))
       (ap (λ (p : Cpu). p .counters) (changed-at (cellAt m id .cpus) stopCpu k (m .cpus) below) ∙ kept-in (cellAt m id .cpus) stopCpu k (cpuAt m k) refl)
 
   -- ---- Create

@@ -25,16 +25,16 @@ use Rattle.rules.specs.State.{rootId, live, answered}
 use Rattle.rules.specs.Answers.{isUnobeyed}
 use Rattle.rules.specs.Effects.{effect, disabled}
 use Rattle.rules.specs.Create.{freeId}
-use Rattle.rules.specs.Asking.{asks, asking, telling, waitFor, finished, ask, poll, pollCell}
+use Rattle.rules.specs.Asking.{asks, asking, telling, waitFor, finished, ask, poll, cutsOff, heardAt, stillWaits, pollCell}
 use Rattle.rules.specs.Calls.{call}
-use Rattle.rules.proofs.Cases.{ask-cases, call-cases, poll-asking, poll-telling}
+use Rattle.rules.proofs.Cases.{ask-cases, call-cases, heard-cases, poll-asking, poll-telling}
 use Rattle.history.specs.History.{Created, hasCell}
-use Rattle.reached.proofs.Table.{tableOf}
+use Rattle.reached.proofs.Table.{Table, tableOf, cut-same}
 use Rattle.reached.proofs.Sound.{IsCell, Fits}
 use Rattle.reached.proofs.Settled.{Settled, after-disable}
 use Rattle.reached.proofs.Ready.{fits}
 use Rattle.reached.proofs.Walk.{WaitsWell}
-use Rattle.counters.proofs.Resets.{countersOf, Resets, resets-none, resets-waiting, resets-message, started-resets, loadable-resets, created-resets, destroyed-resets, disabled-resets}
+use Rattle.counters.proofs.Resets.{countersOf, Resets, resets-none, resets-waiting, resets-message, started-resets, loadable-resets, cut-resets, created-resets, destroyed-resets, disabled-resets}
 
 -- what an effect needs for that: a free ID for Create, a live cell for Destroy, and none left after Disable
 pub record Free (id : ℕ) (m : Machine) : Type 0 where
@@ -86,9 +86,9 @@ module _ (k : ℕ) (below : k < 64) where
   ask-goes : (kind : CallKind) (target after : ℕ) (new : CellConfig) (m : Machine) → Can kind target m → Goes m (ask kind target after new m)
   ask-goes kind target after new m can =
       ask-cases (Goes m) kind target after new m
-      (λ c l. waits-goes kind (asking target c) _ m m (still m))
+      (λ c l. waits-goes kind (asking target c 0) _ m m (still m))
       (λ locked. ends-goes EPERM m m (still m))
-      (λ c l. waits-goes kind (telling target c) _ m _ (effect-resets kind target new m can))
+      (λ c l. waits-goes kind (telling target c 0) _ m _ (effect-resets kind target new m can))
       (λ n. ends-goes (pos n) m _ (effect-resets kind target new m can))
 
   -- a call, past the tables
@@ -125,32 +125,59 @@ module _ (k : ℕ) (below : k < 64) where
               (is-cell a1 (record { other = λ q. fails (may .other) (eq→eqb a1 0 q); lives = may .lives }));
         })
 
-    -- a poll; the target of Destroy is the cell that it asked
-    asked-can : (kind : CallKind) (target cell : ℕ) → IsCell (tableOf m) cell → asks kind target cell ≡ true → Can kind target m
-    unfolding asks
-    asked-can Disable target cell c e = none-left
-    asked-can Create target cell c e = absurd (true≢false (sym e))
-    asked-can Start target cell c e = tt
-    asked-can SetLoadable target cell c e = tt
-    asked-can Destroy target cell c e = is-cell target (subst (IsCell (tableOf m)) (eqb→eq cell target (holds e)) c)
+  -- a poll: what follows on the machine where the cell is heard, of the machine before it
+  heard-resets : (stage : Stage) (m n : Machine) → Resets k (countersOf k (heardAt stage m)) (heardAt stage m) n → Resets k (countersOf k m) m n
+  heard-resets stage m n =
+      heard-cases (λ (h : Machine). Resets k (countersOf k h) h n → Resets k (countersOf k m) m n) stage m (λ r. r) (cut-resets k below (stage .cell) m n)
 
+  -- the target of Destroy is the cell that it asked
+  asked-can : (boot : SystemConfig) (cs : List Created) (m : Machine) → Settled boot cs (tableOf m) → (kind : CallKind) (target cell : ℕ) → IsCell (tableOf m) cell
+      → asks kind target cell ≡ true → Can kind target m
+  unfolding asks
+  asked-can boot cs m s Disable target cell c e = none-left boot cs m s
+  asked-can boot cs m s Create target cell c e = absurd (true≢false (sym e))
+  asked-can boot cs m s Start target cell c e = tt
+  asked-can boot cs m s SetLoadable target cell c e = tt
+  asked-can boot cs m s Destroy target cell c e = is-cell boot cs m s target (subst (IsCell (tableOf m)) (eqb→eq cell target (holds e)) c)
+
+  module _ (boot : SystemConfig) (cs : List Created) (m : Machine) (settled : Settled boot cs (tableOf m)) where
     PollGoes : Stepped → Type 0
     PollGoes s = Resets k (countersOf k m) m (s .machine)
 
+    unheard-goes : (kind : CallKind) (stage : Stage) → Resets k (countersOf k m) m (stillWaits kind stage m)
+    unfolding stillWaits
+    unheard-goes kind stage = resets-waiting k (countersOf k m) m m _ (still m)
+
     pub poll-goes : (w : Waiting) (new : CellConfig) → WaitsWell (tableOf m) w → Resets k (countersOf k m) m (poll w new m .machine)
-    unfolding poll answered PollGoes
+    unfolding poll answered PollGoes cutsOff heardAt
     poll-goes NoCall new well = still m
     poll-goes (Pending kind stage) new well = by-stage (stage .telling) refl
       where
-        by-stage : (b : Bool) → stage .telling ≡ b → PollGoes (pollCell kind (record { target = stage .target; cell = stage .cell; telling = b }) new m)
+        target : ℕ
+        target = stage .target
+
+        cell : ℕ
+        cell = stage .cell
+
+        heard : Machine
+        heard = heardAt stage m
+
+        -- it has the same table
+        table : tableOf heard ≡ tableOf m
+        table = heard-cases (λ (h : Machine). tableOf h ≡ tableOf m) stage m refl (cut-same cell m (settled .sound .cpus-room))
+
+        from-heard : (s : Stepped) → Goes heard s → PollGoes s
+        from-heard s g = heard-resets stage m (s .machine) (g .resets)
+
+        by-stage : (b : Bool) → stage .telling ≡ b → PollGoes (pollCell kind (record { target = target; cell = cell; telling = b; polls = stage .polls }) new m)
         by-stage true e =
-            poll-telling PollGoes kind (stage .target) (stage .cell) new m (still m)
-            (λ c l. waits-goes kind (telling (stage .target) c) _ m m (still m) .resets)
-            (λ n. ends-goes (pos n) m m (still m) .resets)
+            poll-telling PollGoes kind target cell (stage .polls) new m (λ u. unheard-goes kind (telling target cell (stage .polls)))
+            (λ c l. from-heard _ (waits-goes kind (telling target c 0) _ heard heard (still heard)))
+            (λ n. from-heard _ (ends-goes (pos n) heard heard (still heard)))
         by-stage false e =
-            let can = asked-can kind (stage .target) (stage .cell) (well .messaged .cell) (well .asked e) in
-            poll-asking PollGoes kind (stage .target) (stage .cell) new m (still m)
-            (ends-goes EPERM m m (still m) .resets)
-            (λ c l. waits-goes kind (asking (stage .target) c) _ m m (still m) .resets)
-            (λ c l. waits-goes kind (telling (stage .target) c) _ m _ (effect-resets kind (stage .target) new m can) .resets)
-            (λ n. ends-goes (pos n) m _ (effect-resets kind (stage .target) new m can) .resets)
+            let can = asked-can boot cs heard (subst (Settled boot cs) (sym table) settled) kind target cell (subst (λ (t : Table). IsCell t cell) (sym table) (well .messaged .cell)) (well .asked e) in
+            poll-asking PollGoes kind target cell (stage .polls) new m (λ u. unheard-goes kind (asking target cell (stage .polls)))
+            (from-heard _ (ends-goes EPERM heard heard (still heard)))
+            (λ c l. from-heard _ (waits-goes kind (asking target c 0) _ heard heard (still heard)))
+            (λ c l. from-heard _ (waits-goes kind (telling target c 0) _ heard _ (effect-resets kind target new heard can)))
+            (λ n. from-heard _ (ends-goes (pos n) heard _ (effect-resets kind target new heard can)))

@@ -27,7 +27,8 @@ use Rattle.cpu_table.specs.CpuTable.{changeOf, touched}
 use Rattle.cpu_table.proofs.Laws.{cpu-inside}
 use Rattle.comms.specs.Comms.{cellIndex}
 use Rattle.asking.specs.declared.Move.{Move}
-use Rattle.asking.specs.Moves.{moved, Moves, Polls}
+use Rattle.asking.specs.declared.Polled.{Polled}
+use Rattle.asking.specs.Moves.{moved, cutOffAt, PollMoves, Polls}
 use Rattle.unobeyed.specs.declared.Admission.{Admission}
 use Rattle.unobeyed.specs.declared.Admission.the-variants.{Admitted, Refused}
 use Rattle.unobeyed.specs.Admission.{cpuFor, askedFor, waitedCell, cellFor, Looks, admitted, Follows, Placed}
@@ -49,8 +50,8 @@ places p q h = subst (λ (x : Event). Placed p x) q h
 
 pub calls : {has one : Machine → Type 0} (cpu code a1 a2 : ℕ) (bytes : List ℕ) (mv : Move) → cpu < maxCpus → ((m : Machine) → has m → one m)
     → Calls one cpu bytes (call cpu code a1 a2 bytes) mv
-    → Settles has (cellOf bytes) (obeyed (Call cpu code a1 a2) bytes) (record { cpu = cpu; touch = CpuChange.Count callCounter; moves = mv })
-unfolding settled obeyed touched changeOf counted
+    → Settles has (cellOf bytes) (obeyed (Call cpu code a1 a2) bytes) (record { cpu = cpu; touch = CpuChange.Count callCounter; cut = 16; moves = mv })
+unfolding settled cutOffAt obeyed touched changeOf counted
 calls cpu code a1 a2 bytes mv h f r = record { settles = λ m p. r .moves m (f m p); cpu = h; cell = r .place }
 
 -- of a store: its CPU
@@ -93,12 +94,12 @@ module _ {boot : ℕ} {pool remap : Pool} {pages ids : ℕ} {table : List CommRe
   }
 
 module _ {boot : ℕ} {pool remap : Pool} {pages ids : ℕ} {table : List CommRegion} {call : Waiting} {p : Cpu} {w : CommRegion} {q : Cpu} {scan : ℤ} where
-  pub polls : (bytes : List ℕ) (mv : Move) → Moves (Polls ids table w call) (poll call) mv
+  pub polls : (bytes : List ℕ) (done : Polled) → PollMoves (Polls ids table w call) (poll call) done
       → Settles (AllParts boot pool remap pages ids table call Poll bytes p w q scan) (cellOf bytes) (obeyed Poll bytes)
-      (record { cpu = 0; touch = CpuChange.Keep; moves = mv })
+      (record { cpu = 0; touch = CpuChange.Keep; cut = done .cut; moves = done .moves })
   unfolding settled obeyed
-  polls bytes mv r = record {
-    settles = λ m h. ap (moved mv (cellOf bytes)) (kept-cpu 0 m) ∙ r .moves m (cellOf bytes) (polled m h)
+  polls bytes done r = record {
+    settles = λ m h. ap (λ (n : Machine). moved (done .moves) (cellOf bytes) (cutOffAt (done .cut) n)) (kept-cpu 0 m) ∙ r .moves m (cellOf bytes) (polled m h)
         ∙ ap (λ (x : Waiting). poll x (cellOf bytes) m) (sym (h .parts .waits));
     cpu = omega arith;
     cell = r .place;

@@ -24,7 +24,7 @@ use Rattle.machine_state.specs.declared.Stepped.{Stepped}
 use Rattle.machine_state.specs.declared.Waiting.{Waiting}
 use Rattle.machine_state.specs.Machine.{pastCpu, maxCells, maxCpus}
 use Rattle.rules.specs.State.{rootId, failed, isFinal, cellAt, commAt, stateAt, cpuAt, withWaiting, withComm, withCpus, answered}
-use Rattle.rules.specs.Effects.{counted, exitCounter, stored, withState, failCpu, allFailed, cellFailed, faulted}
+use Rattle.rules.specs.Effects.{counted, exitCounter, storeWord, stored, withState, failCpu, allFailed, cellFailed, faulted}
 use Rattle.cpu_table.specs.declared.CpuChange.{CpuChange}
 use Rattle.cpu_table.specs.declared.CpuChange.the-variants as CpuChange
 use Rattle.cpu_table.specs.CpuTable.{changeOf, touched}
@@ -34,7 +34,7 @@ use Rattle.comms.specs.Comms.{wordsOf, wordsAt, Index, cellIndex}
 use Rattle.comms.proofs.Laws.{cell-inside}
 use Rattle.asking.specs.declared.Effect.the-variants.{NoEffect}
 use Rattle.asking.specs.declared.Move.{Move}
-use Rattle.asking.specs.Moves.{effectOf, moved, Moves}
+use Rattle.asking.specs.Moves.{effectOf, moved, Moves, cutOffAt}
 use Rattle.decide.specs.declared.Decision.{Decision}
 use Rattle.decide.specs.Decide.{settled, Settles, cellFails, scanOf, Faulty}
 
@@ -51,19 +51,19 @@ kept-cpu cpu m = ap (λ (cpus : List Cpu). withCpus cpus m) (set-getD (m .cpus) 
 -- an answer, and nothing but one CPU's change
 pub only-cpu : (cpu : ℕ) (how : CpuChange) (answer : Answer) (waiting : Waiting) (mv : Move) → cpu < maxCpus
     → Moves (λ m. m .waiting ≡ waiting) (λ new m. answered answer m) mv
-    → (new : CellConfig) → Settles (λ m. m .waiting ≡ waiting) new (λ m. answered answer (touched cpu how m)) (record { cpu = cpu; touch = how; moves = mv })
-unfolding settled touched withCpus
+    → (new : CellConfig) → Settles (λ m. m .waiting ≡ waiting) new (λ m. answered answer (touched cpu how m)) (record { cpu = cpu; touch = how; cut = 16; moves = mv })
+unfolding settled cutOffAt touched withCpus
 only-cpu cpu how answer waiting mv h r new = record { settles = λ m e. r .moves (touched cpu how m) new e; cpu = h; cell = r .place }
 
 pub leaves : (answer : Answer) (waiting : Waiting) (mv : Move) → Moves (λ m. m .waiting ≡ waiting) (λ new m. answered answer m) mv
-    → (new : CellConfig) → Settles (λ m. m .waiting ≡ waiting) new (answered answer) (record { cpu = 0; touch = CpuChange.Keep; moves = mv })
+    → (new : CellConfig) → Settles (λ m. m .waiting ≡ waiting) new (answered answer) (record { cpu = 0; touch = CpuChange.Keep; cut = 16; moves = mv })
 leaves answer waiting mv r new =
     settles-as (only-cpu 0 CpuChange.Keep answer waiting mv (omega arith) r new) (λ m e. e) (λ m e. ap (answered answer) (kept-cpu 0 m))
 
 pub exits : (cpu kind : ℕ) (waiting : Waiting) (mv : Move) → cpu < maxCpus → Moves (λ m. m .waiting ≡ waiting) (λ new m. answered Done m) mv
     → (new : CellConfig)
     → Settles (λ m. m .waiting ≡ waiting) new (λ m. answered Done (counted (exitCounter kind) cpu m))
-    (record { cpu = cpu; touch = CpuChange.Count (kind + 1); moves = mv })
+    (record { cpu = cpu; touch = CpuChange.Count (kind + 1); cut = 16; moves = mv })
 unfolding counted touched changeOf
 exits cpu kind waiting mv h r new = only-cpu cpu (CpuChange.Count (kind + 1)) Done waiting mv h r new
 
@@ -77,9 +77,9 @@ module _ (waiting : Waiting) (new : CellConfig) (m : Machine) (w : m .waiting �
   stored-at cell word value = ap (λ (call : Waiting). answered Done (withWaiting call (wordsAt cell (Store word value) m))) (sym w)
 
   pub stores : (cpu word value : ℕ) (p : Cpu) → cpuAt m cpu ≡ p
-      → settled (record { cpu = cpu; touch = CpuChange.Keep; moves = store-at (p .cell) word value }) new m
+      → settled (record { cpu = cpu; touch = CpuChange.Keep; cut = 16; moves = store-at (p .cell) word value }) new m
       ≡ answered Done (stored cpu word value m)
-  unfolding settled stored wordsAt wordsOf
+  unfolding settled cutOffAt stored wordsAt wordsOf
   stores cpu word value p e =
       ap (moved (store-at (p .cell) word value) new) (kept-cpu cpu m) ∙ stored-at (p .cell) word value
       ∙ ap (λ (x : Cpu). answered Done (wordsAt (x .cell) (Store word value) m)) (sym e)
@@ -185,7 +185,7 @@ module _ (scan : ℤ) (p : Cpu) (waiting : Waiting) (cpu : ℕ) (inside : cpu < 
       go false e = absurd (n (ap (ofZ w32) (scan-fails m h false e)))
 
   pub faults : (mv : Move) → ofZ w32 scan ≡ 0 → Moves (λ m. m .waiting ≡ waiting) (λ new m. answered Done m) mv → (new : CellConfig)
-      → Settles (Faulty scan p waiting cpu) new (λ m. answered Done (faulted cpu m)) (record { cpu = cpu; touch = CpuChange.Fail; moves = mv })
+      → Settles (Faulty scan p waiting cpu) new (λ m. answered Done (faulted cpu m)) (record { cpu = cpu; touch = CpuChange.Fail; cut = 16; moves = mv })
   faults mv z r new =
       settles-as (only-cpu cpu CpuChange.Fail Done waiting mv inside r new) (λ m h. h .waits)
       (λ m h. ap (answered Done)
@@ -196,9 +196,10 @@ module _ (scan : ℤ) (p : Cpu) (waiting : Waiting) (cpu : ℕ) (inside : cpu < 
       (record {
         cpu = cpu;
         touch = CpuChange.Fail;
+        cut = 16;
         moves = record { answer = Done; effect = NoEffect; cell = place; words = Store 2 failed; waiting = waiting };
       })
-  unfolding settled wordsAt wordsOf touched withCpus
+  unfolding settled cutOffAt wordsAt wordsOf storeWord touched withCpus
   fails-cell place i n new = record {
     settles = λ m h. let fails = scan-some m h n in
         ap (λ (k : ℕ). moved (record { answer = Done; effect = NoEffect; cell = k; words = Store 2 failed; waiting = waiting }) new (touched cpu CpuChange.Fail m))

@@ -1,4 +1,4 @@
--- A decision: what is done to one CPU, and then the move.
+-- A decision: what is done to one CPU, which cell is cut off, and then the move.
 use mathlib.Core.Path.{_≡_}
 use mathlib.Core.Bool.{Bool, true, false, not, _&&_}
 use mathlib.Core.List.{List, []}
@@ -26,14 +26,14 @@ use Rattle.rules.specs.Step.{step}
 use Rattle.cpu_table.specs.CpuTable.{touched, cpuIndex}
 use Rattle.comms.specs.Comms.{cellIndex}
 use Rattle.asking.specs.declared.Move.{Move}
-use Rattle.asking.specs.Moves.{moved}
+use Rattle.asking.specs.Moves.{moved, cutOffAt}
 use Rattle.unobeyed.specs.Admission.{cpuFor, askedFor, cellFor, Looks}
 use Rattle.create_rules.specs.Rows.{createCode}
 use Rattle.decide.specs.declared.Decision.{Decision}
 
--- a decision applied: the CPU first, then the move
+-- a decision applied: the CPU first, then the cell that is cut off, then the move
 unfoldable pub settled : Decision → CellConfig → Machine → Stepped
-settled d new m = moved (d .moves) new (touched (d .cpu) (d .touch) m)
+settled d new m = moved (d .moves) new (cutOffAt (d .cut) (touched (d .cpu) (d .touch) m))
 
 -- a decision is right: applied, it is the rule's step at every machine that has the parts from which it was decided, and the CPU and the words
 -- that it names are in their tables

@@ -48,18 +48,18 @@ use machine_state::HYPERVISOR_GET_INFO;
 use machine_state::MAX_CELLS;
 use machine_state::MAX_CPUS;
 use machine_state::Power;
+use machine_state::STATE_WORD;
 use machine_state::Waiting;
 use system_record::Pool;
 use system_record::SystemConfig;
 use unobeyed::Admission;
 
-// The number of the state word.
-const STATE_WORD: u64 = 2;
-
-// What is to be done: to one CPU, and then the move.
+// What is to be done: to one CPU, then to the cell that its reply limit cuts off, `MAX_CELLS` for none,
+// and then the move.
 pub struct Decision {
     pub cpu: usize,
     pub touch: CpuChange,
+    pub cut: usize,
     pub moves: Move,
 }
 
@@ -70,6 +70,7 @@ fn leave(answer: Answer, waiting: Waiting) -> Decision
     Decision {
         cpu: 0,
         touch: CpuChange::Keep,
+        cut: MAX_CELLS,
         moves: asking::stay(answer, waiting),
     }
 }
@@ -89,6 +90,7 @@ fn store(p: Cpu, waiting: Waiting, cpu: u64, word: u64, value: u32) -> Decision
     Decision {
         cpu: cpu as usize,
         touch: CpuChange::Keep,
+        cut: MAX_CELLS,
         moves,
     }
 }
@@ -101,6 +103,7 @@ fn exit(waiting: Waiting, cpu: u64, kind: u64) -> Decision
     Decision {
         cpu: cpu as usize,
         touch: CpuChange::Count(kind as usize + 1),
+        cut: MAX_CELLS,
         moves: asking::stay(Answer::Done, waiting),
     }
 }
@@ -116,6 +119,7 @@ fn fault(scan: i32, p: Cpu, waiting: Waiting, cpu: u64) -> Decision
         return Decision {
             cpu: k,
             touch,
+            cut: MAX_CELLS,
             moves: asking::stay(Answer::Done, waiting),
         };
     }
@@ -129,6 +133,7 @@ fn fault(scan: i32, p: Cpu, waiting: Waiting, cpu: u64) -> Decision
     Decision {
         cpu: k,
         touch,
+        cut: MAX_CELLS,
         moves,
     }
 }
@@ -333,17 +338,23 @@ fn obey(
             Decision {
                 cpu: cpu as usize,
                 touch: CpuChange::Count(CALL_COUNTER),
+                cut: MAX_CELLS,
                 moves,
             }
         }
         Event::Store(cpu, word, value) => store(p, waiting, cpu, word, value),
         Event::Fault(cpu) => fault(scan, p, waiting, cpu),
         Event::Exit(cpu, kind) => exit(waiting, cpu, kind),
-        Event::Poll => Decision {
-            cpu: 0,
-            touch: CpuChange::Keep,
-            moves: asking::poll(live_ids, comms, w, waiting),
-        },
+        Event::Poll => {
+            let polled = asking::poll(live_ids, comms, w, waiting);
+            let moves = polled.moves;
+            Decision {
+                cpu: 0,
+                touch: CpuChange::Keep,
+                cut: polled.cut,
+                moves,
+            }
+        }
         Event::Malformed => leave(Answer::Bad, waiting),
     }
 }

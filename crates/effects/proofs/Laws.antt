@@ -6,7 +6,7 @@ use mathlib.Core.List.{List, _∷_}
 use Prim.Native.Nat.{ℕ, suc, _+_, _-_, _%_, _^_, _≤_, _<_}
 use native.Mathlib.Omega.{arith}
 use native.Mathlib.Numerals.{add-one}
-use borrow.Author.Tests.{ltb-false}
+use borrow.Author.Tests.{ltb-false, lt-ltb, le-ltb}
 use lib.Dec.{ltb}
 use lib.ListN.{length, set, getD, List·getD-eq-default}
 use lib.Seq.{set-out, set-getD}
@@ -20,13 +20,14 @@ use Rattle.machine_state.specs.declared.CallKind.{CallKind}
 use Rattle.machine_state.specs.declared.CallKind.the-variants.{Disable, Create, Start, SetLoadable, Destroy}
 use Rattle.machine_state.specs.declared.Machine.{Machine}
 use Rattle.machine_state.specs.Machine.{cellIn, pastCell, pastComm, maxCells}
-use Rattle.rules.specs.State.{live, cellAt, commAt, withPool, withIds, withRootCpus, withCell, withComm, withCpus}
-use Rattle.rules.specs.Effects.{poolCost, newComm, cpusChanged, cellCreated, inPhase, cellStarted, cellLoadable, cellDestroyed, allDestroyed, disabled, effect}
+use Rattle.rules.specs.State.{live, cellAt, commAt, failed, withPool, withIds, withRootCpus, withCell, withComm, withCpus}
+use Rattle.rules.specs.Effects.{poolCost, newComm, withState, changeCpus, cpusChanged, cellCutOff, cellCreated, inPhase, cellStarted, cellLoadable, cellDestroyed, allDestroyed, disabled, effect}
+use Rattle.cpu_table.specs.declared.CpuChange.the-variants as CpuChange
 use Rattle.cpu_table.specs.CpuTable.{changeOf}
 use Rattle.comms.specs.Comms.{cellIndex}
 use Rattle.asking.specs.declared.Effect.{Effect}
 use Rattle.asking.specs.declared.Effect.the-variants.{NoEffect, Comes}
-use Rattle.asking.specs.Moves.{effectOf}
+use Rattle.asking.specs.Moves.{effectOf, cutOffAt}
 use Rattle.effects.specs.declared.Figures.{Figures}
 use Rattle.effects.specs.declared.Target.{Target}
 use Rattle.effects.specs.declared.CellChange.{CellChange}
@@ -159,6 +160,22 @@ module _ (kind : CallKind) (id place : ℕ) (new : CellConfig) (m : Machine) whe
           waiting = m .waiting;
         })
         ∙ by-kind kind id new m e
+
+-- ---- a cell cut off
+
+-- its words and its CPUs, stored, make the rule's machine
+pub cut-stored : (cut : ℕ) (m : Machine) (w : CommRegion) (cpus : List Cpu) → cut < maxCells → w ≡ withState failed (commAt m cut)
+    → cpus ≡ changeCpus (cellAt m cut .cpus) (changeOf CpuChange.Stop) (m .cpus)
+    → withCpus cpus (withComm cut w m) ≡ cutOffAt cut m
+unfolding cutOffAt cellCutOff cpusChanged changeOf withCpus withComm
+cut-stored cut m w cpus inside isWords isCpus =
+    ap (λ (x : CommRegion). withCpus cpus (withComm cut x m)) isWords
+    ∙ ap (λ (x : List Cpu). withCpus x (withComm cut (withState failed (commAt m cut)) m)) isCpus
+    ∙ sym (ap (λ (b : Bool). elim b as (λ x. Machine) [ true ↦ cellCutOff cut m | false ↦ m ]) (lt-ltb cut maxCells inside))
+
+pub none-cut : (cut : ℕ) (m : Machine) → maxCells ≤ cut → m ≡ cutOffAt cut m
+unfolding cutOffAt
+none-cut cut m h = sym (ap (λ (b : Bool). elim b as (λ x. Machine) [ true ↦ cellCutOff cut m | false ↦ m ]) (le-ltb cut maxCells h))
 
 -- ---- the pool
 

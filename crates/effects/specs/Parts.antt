@@ -41,7 +41,7 @@ within id x y = elim (ltb id maxCells) [ true ↦ x | false ↦ y ]
 
 -- what a record says that Create's effect needs beside the cell itself
 unfoldable pub figuresOf : CellConfig → Figures
-figuresOf new = record { cpus = new .cpus; «region_count» = new .«region_count»; mapped = any comm (cellRegions new); passive = new .passive }
+figuresOf new = record { cpus = new .cpus; «region_count» = new .«region_count»; mapped = any comm (cellRegions new); passive = new .passive; «reply_limit» = new .«reply_limit» }
 
 -- what a cell holds, at whose place one with these CPUs and regions stands
 unfoldable pub targetOf : ℕ → ℕ → ℕ → Target
@@ -104,7 +104,7 @@ changedCell CellChange.Empty new c = noCell
 
 -- the words
 unfoldable pub newWords : Figures → CommRegion
-newWords new = record { mapped = new .mapped; passive = new .passive; «msg_to_cell» = 0; «reply_from_cell» = 0; «cell_state» = shutDown }
+newWords new = record { mapped = new .mapped; passive = new .passive; «reply_limit» = new .«reply_limit»; «msg_to_cell» = 0; «reply_from_cell» = 0; «cell_state» = shutDown }
 
 unfoldable pub wordsAfter : CallKind → Figures → CommRegion → CommRegion
 wordsAfter Disable new w = w

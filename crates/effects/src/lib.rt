@@ -7,13 +7,14 @@ ghost use Rattle.cell_record.specs.CellRecord.{cellOf};
 ghost use mathlib.Core.List.{List, _∷_};
 ghost use Rattle.rules.specs.State.{withPower};
 ghost use Rattle.rules.specs.Effects.{poolCost, newCell, withPhase, clearWords, withState, effect as effect-of, allDestroyed, disabled};
-ghost use Rattle.asking.specs.Moves.{effectOf};
+ghost use Rattle.asking.specs.Moves.{effectOf, cutOffAt};
 ghost use Rattle.effects.specs.Parts.{isDisable, figuresOf, targetOf, numbersAfter, within, kindChange, cellChange, changedCell, newWords, wordsAfter};
 use asking::Effect;
 use cpu_table::CpuChange;
 use machine_state::CallKind;
 use machine_state::Cell;
 use machine_state::CommRegion;
+use machine_state::FAILED;
 use machine_state::MAX_CELLS;
 use machine_state::Machine;
 use machine_state::Phase;
@@ -26,6 +27,7 @@ pub struct Figures {
     pub region_count: usize,
     pub mapped: bool,
     pub passive: bool,
+    pub reply_limit: u16,
 }
 
 // What a cell that an effect is about holds; a number that is no cell's holds nothing.
@@ -74,6 +76,7 @@ pub fn figures_of(record: &[u8]) -> Figures
         region_count: fields::u16_at(record, 48) as usize,
         mapped: cell_record::has_comm(record),
         passive: fields::u16_at(record, 6) % 2 == 1,
+        reply_limit: fields::u16_at(record, 50),
     }
 }
 
@@ -238,6 +241,7 @@ fn new_comm(new: Figures) -> CommRegion
     CommRegion {
         mapped: new.mapped,
         passive: new.passive,
+        reply_limit: new.reply_limit,
         msg_to_cell: 0,
         reply_from_cell: 0,
         cell_state: SHUT_DOWN,
@@ -286,6 +290,29 @@ pub fn words_after(kind: CallKind, id: usize, new: Figures, w: CommRegion) -> Co
     } else {
         w
     }
+}
+
+// The words of a cell that its reply limit cuts off.
+pub fn failed_words(w: CommRegion) -> CommRegion
+    ensures { λ r. ⌜ r ≡ withState 3 w ⌝ }
+{
+    let mut next = w;
+    next.cell_state = FAILED;
+    next
+}
+
+// The machine with a cell cut off by its reply limit; a number past the table names none.
+pub fn cut_off(m: Machine, cut: usize) -> Machine
+    ensures { λ r. ⌜ r ≡ cutOffAt cut m ⌝ }
+{
+    if cut < MAX_CELLS {
+        let mut next = m;
+        let cpus = m.cpus;
+        next.comms[cut] = failed_words(m.comms[cut]);
+        next.cpus = cpu_table::change_cpus(m.cells[cut].cpus, CpuChange::Stop, cpus);
+        return next;
+    }
+    m
 }
 
 // The machine after the effect of a call on one cell.

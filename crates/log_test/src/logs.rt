@@ -1,5 +1,6 @@
 // The machine of a log, and the ways to run a log over it.
 use lines::MAX_RECORD;
+use machine_state::Event;
 use machine_state::Machine;
 use replay_log::Replay;
 use test_support::names;
@@ -29,7 +30,65 @@ pub(crate) fn begin(m: Machine, script: &[u8], line: &[u8], out: &mut [u8]) -> M
         let machine = with_counter(m, cpu.value, counter.value, value.value);
         return Made { machine, n: 0 };
     }
+    if text::starts(line, b"times ") {
+        let times = text::number_of(text::word(line, 1));
+        return polls(m, times.value, out);
+    }
     Made { machine: m, n: 0 }
+}
+
+// One poll by the entry for the shim: the machine after it, and its answer without a line feed.
+fn poll(m: Machine, out: &mut [u8]) -> Made {
+    let stepped = manager::step(m, Event::Poll, b"");
+    let machine = stepped.machine;
+    let answer = stepped.answer;
+    let n = texts::put_answer(answer, out);
+    let line = text::but_last(text::first(out, n));
+    Made {
+        machine,
+        n: line.len(),
+    }
+}
+
+// Polls in a row: the machine after them, and whether all had the same answer.
+struct Polling {
+    machine: Machine,
+    same: bool,
+}
+
+// One poll more, whose answer should be `told`.
+fn poll_again(p: Polling, told: &[u8]) -> Polling {
+    let mut now = [0u8; 32];
+    let m = p.machine;
+    let made = poll(m, &mut now);
+    let machine = made.machine;
+    Polling {
+        machine,
+        same: p.same & check::same(text::first(&now, made.n), told),
+    }
+}
+
+// As many polls as are asked for: the machine after them, and their answer, if all had the same.
+fn polls(m: Machine, times: u64, out: &mut [u8]) -> Made {
+    let mut first = [0u8; 32];
+    let begun = poll(m, &mut first);
+    let machine = begun.machine;
+    let mut p = Polling {
+        machine,
+        same: true,
+    };
+    let mut left = times;
+    while 1 < left {
+        p = poll_again(p, text::first(&first, begun.n));
+        left -= 1;
+    }
+    let machine = p.machine;
+    if p.same {
+        let n = text::put_all(out, 0, text::first(&first, begun.n));
+        return Made { machine, n };
+    }
+    let n = text::put_all(out, 0, b"different answers");
+    Made { machine, n }
 }
 
 // Boots from a record of the script.

@@ -2,7 +2,7 @@
 // script: it says what its lines are, and has the answer that document 01 gives to each. The file
 // `stdout` is the same text and a count.
 //
-// A block of the script is a log: a line `boot` or `counter` and what follows it up to the next. The
+// A block of the script is a log: a line `boot`, `counter` or `times` and what follows it up to the next. The
 // log is run by the loop over a log, by the entry for the shim, and in pieces (logs.rt); where one
 // of them gives another answer, a line says so and counts as wrong.
 mod logs;

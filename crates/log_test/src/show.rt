@@ -11,6 +11,7 @@ pub enum Line {
     Record,
     Boot,
     Counter,
+    Times,
     Case,
     Unknown,
 }
@@ -31,6 +32,9 @@ fn kind_of(line: &[u8]) -> Line {
     if text::starts(line, b"counter ") {
         return Line::Counter;
     }
+    if text::starts(line, b"times ") {
+        return Line::Times;
+    }
     if text::find(line, b" > ") < line.len() {
         return Line::Case;
     }
@@ -50,6 +54,7 @@ fn begins_log(line: &[u8]) -> bool {
     match kind_of(line) {
         Line::Boot => true,
         Line::Counter => true,
+        Line::Times => true,
         _ => false,
     }
 }
@@ -148,6 +153,7 @@ fn show_line(
         Line::Record => cases::record_line(t, script, line),
         Line::Boot => show_boot(t, script, line, head),
         Line::Counter => show_remark(t, line),
+        Line::Times => cases::answered(t, line, head),
         Line::Case => show_case(t, script, line, ran, stepped),
         Line::Unknown => cases::unread(t, line, b"this line has no answer"),
     }

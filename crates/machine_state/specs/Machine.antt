@@ -32,7 +32,7 @@ freshCpu cell stopped = record { cell = cell; stopped = stopped; failed = false;
 
 -- places that no cell has
 unfoldable pub noComm : CommRegion
-noComm = record { mapped = false; passive = false; «msg_to_cell» = 0; «reply_from_cell» = 0; «cell_state» = 0 }
+noComm = record { mapped = false; passive = false; «reply_limit» = 0; «msg_to_cell» = 0; «reply_from_cell» = 0; «cell_state» = 0 }
 
 unfoldable pub noCell : Cell
 noCell = record { phase = Suspended; name = replicate 32 0; cpus = 0; «region_count» = 0; regions = replicate maxRegions noRegion }
@@ -65,7 +65,7 @@ abbrev pub pastCell : Cell
 pastCell = record { phase = Suspended; name = []; cpus = 0; «region_count» = 0; regions = [] }
 
 abbrev pub pastComm : CommRegion
-pastComm = record { mapped = false; passive = false; «msg_to_cell» = 0; «reply_from_cell» = 0; «cell_state» = 0 }
+pastComm = record { mapped = false; passive = false; «reply_limit» = 0; «msg_to_cell» = 0; «reply_from_cell» = 0; «cell_state» = 0 }
 
 abbrev pub pastCpu : Cpu
 pastCpu = record { cell = 0; stopped = false; failed = false; counters = [] }

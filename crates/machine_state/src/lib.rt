@@ -21,14 +21,19 @@ pub struct Cpu {
 }
 
 // The communication words of a cell: the message to it, its reply, its state; whether it has a
-// communication region at all, and whether it is passive, so that it is never messaged.
+// communication region at all, whether it is passive, so that it is never messaged, and how many
+// polls it may leave a message unanswered, 0 for any number.
 pub struct CommRegion {
     pub mapped: bool,
     pub passive: bool,
+    pub reply_limit: u16,
     pub msg_to_cell: u32,
     pub reply_from_cell: u32,
     pub cell_state: u32,
 }
+
+// The number of the state word, for a store.
+pub const STATE_WORD: u64 = 2;
 
 // What the state word says: running, running with the configuration locked, shut down, failed.
 pub const RUNNING: u32 = 0;
@@ -88,11 +93,13 @@ pub enum CallKind {
 }
 
 // How far a waiting call has come: its target (of Create the new cell), the cell that it waits for,
-// and whether it asks or, its effect done, tells.
+// whether it asks or, its effect done, tells; and how many polls since the message have found
+// nothing, counted where that cell has a reply limit.
 pub struct Stage {
     pub target: usize,
     pub cell: usize,
     pub telling: bool,
+    pub polls: u16,
 }
 
 pub enum Waiting {
@@ -218,6 +225,7 @@ pub fn no_comm() -> CommRegion
     CommRegion {
         mapped: false,
         passive: false,
+        reply_limit: 0,
         msg_to_cell: 0,
         reply_from_cell: 0,
         cell_state: 0,

@@ -1,5 +1,5 @@
 -- What a shell reads of a machine is what an event is decided from; and a decision applied, store by store, is the decision settled: the CPU
--- first, then the effect, the words and the call that waits. Assumes nothing.
+-- first, then the cell that is cut off, the effect, the words and the call that waits. Assumes nothing.
 use mathlib.Core.Path.{_≡_, refl, sym, ap, _∙_}
 use mathlib.Core.List.{List}
 use Prim.Native.Nat.{ℕ}
@@ -15,7 +15,7 @@ use Rattle.rules.specs.State.{bootCpus, cellAt, commAt, stateAt, cpuAt, withCpu
 use Rattle.cpu_table.specs.CpuTable.{changeOf, touched}
 use Rattle.comms.specs.Comms.{wordsOf, wordsAt, Index, cellIndex}
 use Rattle.unobeyed.specs.Admission.{cpuFor, askedFor, cellFor}
-use Rattle.asking.specs.Moves.{effectOf, moved}
+use Rattle.asking.specs.Moves.{effectOf, moved, cutOffAt}
 use Rattle.decide.specs.declared.Decision.{Decision}
 use Rattle.decide.specs.Decide.{settled, scanOf, AllParts, Scans}
 
@@ -54,16 +54,17 @@ module _ (m : Machine) (e : Event) (k at : ℕ) (own-cpu : Index (cpuFor e) maxC
 
 -- ---- what a shell stores
 
-pub applied : (d : Decision) (new : CellConfig) (m : Machine) (p : Cpu) (next : Machine) (w : CommRegion) (last : Machine)
+pub applied : (d : Decision) (new : CellConfig) (m : Machine) (p : Cpu) (cut next : Machine) (w : CommRegion) (last : Machine)
     → p ≡ changeOf (d .touch) (cpuAt m (d .cpu))
-    → next ≡ effectOf (d .moves .effect) new (withCpu (d .cpu) p m)
+    → cut ≡ cutOffAt (d .cut) (withCpu (d .cpu) p m)
+    → next ≡ effectOf (d .moves .effect) new cut
     → w ≡ wordsOf (d .moves .words) (commAt next (d .moves .cell))
     → last ≡ withWaiting (d .moves .waiting) (withComm (d .moves .cell) w next)
     → answered (d .moves .answer) last ≡ settled d new m
 unfolding settled moved touched wordsAt
-applied d new m p next w last isCpu isNext isWords isLast =
+applied d new m p cut next w last isCpu isCut isNext isWords isLast =
     ap (answered (d .moves .answer))
     (isLast
     ∙ ap (λ (x : CommRegion). withWaiting (d .moves .waiting) (withComm (d .moves .cell) x next)) isWords
     ∙ ap (λ (x : Machine). withWaiting (d .moves .waiting) (wordsAt (d .moves .cell) (d .moves .words) x))
-    (isNext ∙ ap (λ (x : Cpu). effectOf (d .moves .effect) new (withCpu (d .cpu) x m)) isCpu))
+    (isNext ∙ ap (effectOf (d .moves .effect) new) (isCut ∙ ap (λ (x : Cpu). cutOffAt (d .cut) (withCpu (d .cpu) x m)) isCpu)))

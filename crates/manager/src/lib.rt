@@ -79,6 +79,7 @@ pub fn step(m: Machine, e: Event, record: &[u8]) -> Stepped
     );
     let cpu = d.cpu;
     let touch = d.touch;
+    let cut = d.cut;
     let moves = d.moves;
     let effect = moves.effect;
     let cell = moves.cell;
@@ -87,6 +88,7 @@ pub fn step(m: Machine, e: Event, record: &[u8]) -> Stepped
     let call = moves.waiting;
     let mut next = m;
     next.cpus[cpu] = cpu_table::change_cpu(m.cpus[cpu], touch);
+    next = effects::cut_off(next, cut);
     next = effects::carry_out(next, effect, record);
     next.comms[cell] = comms::change_words(next.comms[cell], words);
     Stepped {

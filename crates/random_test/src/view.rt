@@ -66,6 +66,7 @@ fn all_counters_print(cpus: [Cpu; MAX_CPUS]) -> u64 {
 
 fn comm_print(h: u64, c: CommRegion) -> u64 {
     let h = with(with(h, c.mapped as u64), c.passive as u64);
+    let h = with(h, c.reply_limit as u64);
     with(
         with(with(h, c.msg_to_cell as u64), c.reply_from_cell as u64),
         c.cell_state as u64,
@@ -147,10 +148,8 @@ fn kind_number(k: CallKind) -> u64 {
 }
 
 fn stage_print(h: u64, s: Stage) -> u64 {
-    with(
-        with(with(h, s.target as u64), s.cell as u64),
-        s.telling as u64,
-    )
+    let h = with(with(h, s.target as u64), s.cell as u64);
+    with(with(h, s.telling as u64), s.polls as u64)
 }
 
 fn waiting_print(h: u64, w: Waiting) -> u64 {

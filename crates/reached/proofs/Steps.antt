@@ -19,18 +19,19 @@ use Rattle.machine_state.specs.declared.Answer.{Answer}
 use Rattle.machine_state.specs.declared.Answer.the-variants.{Code, Wait, Done, Off, Bad, Stopped, Held, Denied, Idle}
 use Rattle.machine_state.specs.declared.Machine.{Machine}
 use Rattle.machine_state.specs.declared.Stepped.{Stepped}
-use Rattle.rules.specs.State.{rootId, commAt, cpuAt, live, waits, answered}
+use Rattle.rules.specs.State.{rootId, commAt, cpuAt, live, waits, withWaiting, answered}
 use Rattle.rules.specs.Unobeyed.{isOn}
 use Rattle.rules.specs.Create.{freeId}
-use Rattle.rules.specs.Asking.{asks, finished, ask, isHeard, consents, hear, pollCell, poll}
+use Rattle.rules.specs.Asking.{asks, finished, ask, consents, hear, withPolls, hearsAt, heardAt, stillWaits, pollCell, poll}
 use Rattle.rules.specs.Calls.{ends, disableCall, createCall, targetCall, callByCode, call}
 use Rattle.rules.specs.Observer.{kindOfCode, targetOf}
 use Rattle.rules.specs.Answers.{isNegative}
 use Rattle.rules.proofs.Ids.{by-test}
+use Rattle.rules.proofs.Cases.{heard-cases}
 use Rattle.history.specs.History.{Created, History, Ahead, Nothing, Effect, hasCome, come, cellsAfter, answeredBy, afterCall, afterTelling, afterPoll}
 use Rattle.reached.specs.Kept.{waitedFor}
 use Rattle.reached.proofs.Members.{or-neither, is-it, clash, chosen, passed}
-use Rattle.reached.proofs.Table.{tableOf}
+use Rattle.reached.proofs.Table.{Table, tableOf, cut-same}
 use Rattle.reached.proofs.Sound.{Fits, IsCell}
 use Rattle.reached.proofs.Settled.{Settled, same-free}
 use Rattle.reached.proofs.Ready.{fits}
@@ -51,34 +52,48 @@ module _ (boot : SystemConfig) where
   poll-ready Destroy target cell new cs m c e = subst (IsCell (tableOf m)) (eqb→eq cell target (holds e)) c
 
   module _ (h : History) (m : Machine) (s : Settled boot (h .cells) (tableOf m)) (on : isOn (m .power) ≡ true) (kind : CallKind) (stage : Stage) (new : CellConfig)
-      (w : Awaits (tableOf m) kind stage) (still : m .waiting ≡ Pending kind stage) where
-    -- nothing is heard: the machine as it was
-    unheard : (g : History) → g .cells ≡ h .cells → aheadIn (Pending kind stage) ≡ g .ahead → stage .cell ≡ g .waitsFor → Agrees boot g m
-    unfolding waitedFor
+      (w : Awaits (tableOf m) kind stage) where
+    -- nothing is heard: the machine as it was, but for the count of polls
+    unheard : (g : History) → g .cells ≡ h .cells → aheadIn (Pending kind stage) ≡ g .ahead → stage .cell ≡ g .waitsFor → Agrees boot g (stillWaits kind stage m)
+    unfolding waitedFor aheadIn stillWaits withPolls withWaiting
     unheard g c a e = record {
       settled = subst (λ (l : List Created). Settled boot l (tableOf m)) (sym c) s;
-      waits = subst (WaitsWell (tableOf m)) (sym still) w;
-      ahead = ap aheadIn still ∙ a;
-      waited = ap waitedFor still ∙ e;
+      waits = record { messaged = w .messaged; asked = w .asked };
+      ahead = a;
+      waited = e;
     }
+
+    -- the machine on which the cell is heard has the same table
+    abbrev heard : Machine
+    heard = heardAt stage m
+
+    same-table : tableOf heard ≡ tableOf m
+    same-table = heard-cases (λ k. tableOf k ≡ tableOf m) stage m refl (cut-same (stage .cell) m (s .sound .cpus-room))
+
+    still-settled : Settled boot (h .cells) (tableOf heard)
+    still-settled = subst (Settled boot (h .cells)) (sym same-table) s
+
+    still-on : isOn (heard .power) ≡ true
+    still-on = ap (λ (t : Table). isOn (t .power)) same-table ∙ on
 
     poll-telling : stage .telling ≡ true → Agree boot (λ a. afterTelling a h) (pollCell kind stage new m)
     unfolding pollCell hear answered afterTelling aheadIn
     poll-telling t =
-        by-test (Agree boot (λ a. afterTelling a h)) (isHeard (commAt m (stage .cell))) (hear kind stage new m) (answered (Wait (stage .cell)) m)
-        (λ e. subst (Agree boot (λ a. afterTelling a h)) (sym (chosen _ _ t)) (tell-agrees boot (λ a. afterTelling a h) (h .cells) kind (stage .target) (stage .cell) m s (λ c l. refl) (λ n. refl)))
+        by-test (Agree boot (λ a. afterTelling a h)) (hearsAt stage m) (hear kind stage new heard) (answered (Wait (stage .cell)) (stillWaits kind stage m))
+        (λ e. subst (Agree boot (λ a. afterTelling a h)) (sym (chosen _ _ t)) (tell-agrees boot (λ a. afterTelling a h) (h .cells) kind (stage .target) (stage .cell) heard still-settled (λ c l. refl) (λ n. refl)))
         (λ e. unheard _ refl (chosen _ _ t) refl)
 
     poll-asking : stage .telling ≡ false → Agree boot (λ a. answeredBy kind (stage .target) [] a h) (pollCell kind stage new m)
     unfolding pollCell hear answered answeredBy aheadIn
     poll-asking t =
         let asked : asks kind (stage .target) (stage .cell) ≡ true = w .asked t in
-        by-test (Agree boot hist) (isHeard (commAt m (stage .cell))) (hear kind stage new m) (answered (Wait (stage .cell)) m)
+        let cell : IsCell (tableOf heard) (stage .cell) = subst (λ (x : Table). IsCell x (stage .cell)) (sym same-table) (w .messaged .cell) in
+        by-test (Agree boot hist) (hearsAt stage m) (hear kind stage new heard) (answered (Wait (stage .cell)) (stillWaits kind stage m))
         (λ e. subst (Agree boot hist) (sym (passed _ _ t))
-        (by-test (Agree boot hist) (consents (commAt m (stage .cell))) (ask kind (stage .target) (stage .cell) new m) (finished EPERM m)
-        (λ c. ask-agrees boot h [] m s on kind (stage .target) (stage .cell) new (poll-ready kind (stage .target) (stage .cell) new (h .cells) m (w .messaged .cell) asked))
-        (λ c. refused-agrees boot h [] m s on kind (stage .target) 0)))
-        (λ e. subst (λ (g : History). Agrees boot g m) (sym (passed _ _ (not-come kind (stage .target) (stage .cell) asked))) (unheard _ refl (passed _ _ t) refl))
+        (by-test (Agree boot hist) (consents (commAt heard (stage .cell))) (ask kind (stage .target) (stage .cell) new heard) (finished EPERM heard)
+        (λ c. ask-agrees boot h [] heard still-settled still-on kind (stage .target) (stage .cell) new (poll-ready kind (stage .target) (stage .cell) new (h .cells) heard cell asked))
+        (λ c. refused-agrees boot h [] heard still-settled still-on kind (stage .target) 0)))
+        (λ e. subst (λ (g : History). Agrees boot g (stillWaits kind stage m)) (sym (passed _ _ (not-come kind (stage .target) (stage .cell) asked))) (unheard _ refl (passed _ _ t) refl))
       where
         hist : Answer → History
         hist a = answeredBy kind (stage .target) [] a h
@@ -98,8 +113,8 @@ module _ (boot : SystemConfig) where
       w = subst (WaitsWell (tableOf m)) e (a .waits)
 
       go : (b : Bool) → stage .telling ≡ b → Agree boot (λ r. afterPoll (aheadIn (Pending kind stage)) r h) (pollCell kind stage new m)
-      go true t = subst (λ (x : Ahead). Agree boot (λ r. afterPoll x r h) (pollCell kind stage new m)) (sym (chosen _ _ t)) (poll-telling h m (a .settled) on kind stage new w e t)
-      go false t = subst (λ (x : Ahead). Agree boot (λ r. afterPoll x r h) (pollCell kind stage new m)) (sym (passed _ _ t)) (poll-asking h m (a .settled) on kind stage new w e t)
+      go true t = subst (λ (x : Ahead). Agree boot (λ r. afterPoll x r h) (pollCell kind stage new m)) (sym (chosen _ _ t)) (poll-telling h m (a .settled) on kind stage new w t)
+      go false t = subst (λ (x : Ahead). Agree boot (λ r. afterPoll x r h) (pollCell kind stage new m)) (sym (passed _ _ t)) (poll-asking h m (a .settled) on kind stage new w t)
 
   -- ---- calls
 

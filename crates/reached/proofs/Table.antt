@@ -24,7 +24,7 @@ use Rattle.machine_state.specs.declared.Power.{Power}
 use Rattle.machine_state.specs.declared.Machine.{Machine}
 use Rattle.machine_state.specs.Machine.{cpuIn, pastCpu, pastComm, pastCell}
 use Rattle.rules.specs.State.{rootId, cellAt, commAt, cpuAt, live, isFinal, failed, withCell, withComm, withCpus, withCpu}
-use Rattle.rules.specs.Effects.{countExit, counted, storeWord, stored, failCpu, allFailed, cellFailed, faulted, withState, changeIn, changeCpus, cpusChanged, startCpu, stopCpu, withPhase, inPhase, clearWords, cellStarted, cellLoadable}
+use Rattle.rules.specs.Effects.{countExit, counted, storeWord, stored, failCpu, allFailed, cellFailed, faulted, withState, changeIn, changeCpus, cpusChanged, startCpu, stopCpu, withPhase, inPhase, clearWords, cellStarted, cellLoadable, cellCutOff}
 use Rattle.rules.proofs.Ids.{by-test}
 use Rattle.reached.specs.Kept.{keptIn, kept}
 
@@ -93,7 +93,8 @@ same-cpu cpu p m e = λ i. record {
   cpuRooms = length-set (m .cpus) cpu p i;
 }
 
-pub same-comm : (id : ℕ) (c : CommRegion) (m : Machine) → c .mapped ≡ commAt m id .mapped → c .passive ≡ commAt m id .passive
+-- words that say the same of a cell's record
+pub same-comm : (id : ℕ) (c : CommRegion) (m : Machine) → c .mapped ≡ commAt m id .mapped → ((x : Cell) → keptIn x c ≡ keptIn x (commAt m id))
     → tableOf (withComm id c m) ≡ tableOf m
 unfolding withComm
 same-comm id c m e f = λ i. record {
@@ -102,13 +103,7 @@ same-comm id c m e f = λ i. record {
   pool = m .«pool_used»;
   isLive = live m;
   rootHas = λ k. member k (m .«root_cpus»);
-  config = λ k. record {
-    name = cellAt m k .name;
-    passive = keeps (λ (w : CommRegion). w .passive) (m .comms) id c pastComm f k i;
-    cpus = cellAt m k .cpus;
-    «region_count» = cellAt m k .«region_count»;
-    regions = cellAt m k .regions;
-  };
+  config = λ k. keeps (λ (w : CommRegion). keptIn (cellAt m k) w) (m .comms) id c pastComm (f (cellAt m k)) k i;
   mapped = λ k. keeps (λ (w : CommRegion). w .mapped) (m .comms) id c pastComm e k i;
   owner = λ k. cpuAt m k .cell;
   cellRooms = length (m .cells);
@@ -127,15 +122,15 @@ store-mapped zero value c = refl
 store-mapped (suc zero) value c = refl
 store-mapped (suc (suc word)) value c = refl
 
-store-passive : (word value : ℕ) (c : CommRegion) → storeWord word value c .passive ≡ c .passive
+store-kept : (word value : ℕ) (c : CommRegion) (x : Cell) → keptIn x (storeWord word value c) ≡ keptIn x c
 unfolding storeWord
-store-passive zero value c = refl
-store-passive (suc zero) value c = refl
-store-passive (suc (suc word)) value c = refl
+store-kept zero value c x = refl
+store-kept (suc zero) value c x = refl
+store-kept (suc (suc word)) value c x = refl
 
 pub stored-same : (cpu word value : ℕ) (m : Machine) → tableOf (stored cpu word value m) ≡ tableOf m
 unfolding stored
-stored-same cpu word value m = same-comm _ _ m (store-mapped word value _) (store-passive word value _)
+stored-same cpu word value m = same-comm _ _ m (store-mapped word value _) (store-kept word value _)
 
 -- a cell has failed, or nothing has changed
 by-failing : (P : Machine → Type 0) (id : ℕ) (m : Machine) → P (withComm id (withState failed (commAt m id)) m) → P m → P (cellFailed id m)
@@ -147,7 +142,7 @@ by-failing P id m p q =
 failed-same : (id : ℕ) (m : Machine) → tableOf (cellFailed id m) ≡ tableOf m
 failed-same id m =
     by-failing (λ (k : Machine). tableOf k ≡ tableOf m) id m
-    (same-comm id _ m (store-mapped 2 failed (commAt m id)) (store-passive 2 failed (commAt m id))) refl
+    (same-comm id _ m refl (λ x. refl)) refl
 
 pub faulted-waiting : (cpu : ℕ) (m : Machine) → faulted cpu m .waiting ≡ m .waiting
 unfolding faulted withCpus withComm
@@ -214,11 +209,15 @@ same-cpus s change m l e = λ i. record {
         ap (λ (p : Cpu). p .cell) (cpu-changed s change (m .cpus) k l)
         ∙ by-test (λ (p : Cpu). p .cell ≡ cpuAt m k .cell) (member k s) _ _ (λ t. e (cpuAt m k)) (λ t. refl)
 
--- Start and Set Loadable
+-- Start, Set Loadable, and a cell cut off
 pub started-same : (id : ℕ) (m : Machine) → length (m .cpus) ≡ 64 → tableOf (cellStarted id m) ≡ tableOf m
 unfolding cellStarted startCpu clearWords withComm
-started-same id m l = phase-same id Started _ ∙ same-cpus _ startCpu _ l (λ p. refl) ∙ same-comm id _ m refl refl
+started-same id m l = phase-same id Started _ ∙ same-cpus _ startCpu _ l (λ p. refl) ∙ same-comm id _ m refl (λ x. refl)
 
 pub loadable-same : (id : ℕ) (m : Machine) → length (m .cpus) ≡ 64 → tableOf (cellLoadable id m) ≡ tableOf m
-unfolding cellLoadable stopCpu storeWord withComm
-loadable-same id m l = phase-same id Loading _ ∙ same-cpus _ stopCpu _ l (λ p. refl) ∙ same-comm id _ m refl refl
+unfolding cellLoadable stopCpu withComm
+loadable-same id m l = phase-same id Loading _ ∙ same-cpus _ stopCpu _ l (λ p. refl) ∙ same-comm id _ m refl (λ x. refl)
+
+pub cut-same : (id : ℕ) (m : Machine) → length (m .cpus) ≡ 64 → tableOf (cellCutOff id m) ≡ tableOf m
+unfolding cellCutOff stopCpu withComm
+cut-same id m l = same-cpus _ stopCpu _ l (λ p. refl) ∙ same-comm id _ m refl (λ x. refl)

@@ -85,7 +85,7 @@ module _ (boot : SystemConfig) where
       → Agrees (settledAs cs (aheadIn (Pending kind stage)) (stage .cell)) (waitFor kind stage code m .machine)
   unfolding waitFor withWaiting withComm message waitedFor answered
   waiting-agrees cs kind stage code m s w =
-      let e : tableOf (withComm (stage .cell) (message code (commAt m (stage .cell))) m) ≡ tableOf m = same-comm (stage .cell) _ m refl refl in
+      let e : tableOf (withComm (stage .cell) (message code (commAt m (stage .cell))) m) ≡ tableOf m = same-comm (stage .cell) _ m refl (λ x. refl) in
       record {
         settled = subst (Settled boot cs) (sym e) s;
         waits = subst (λ (t : Table). Awaits t kind stage) (sym e) w;
@@ -133,7 +133,7 @@ module _ (boot : SystemConfig) where
         next = nextToMessage everyCell after m
 
         stage : Stage
-        stage = telling target next
+        stage = telling target next 0
 
   -- ---- a call that asks, and its effect
 
@@ -201,4 +201,4 @@ module _ (boot : SystemConfig) where
         next = nextToMessage (asks kind target) after m
 
         stage : Stage
-        stage = asking target next
+        stage = asking target next 0

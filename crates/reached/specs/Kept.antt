@@ -8,9 +8,16 @@ use Rattle.machine_state.specs.declared.Waiting.the-variants.{NoCall, Pending}
 use Rattle.machine_state.specs.declared.Machine.{Machine}
 use Rattle.rules.specs.State.{rootId, cellAt, commAt}
 
--- name, passive mark, CPUs and regions, from the cell's two places in the machine
+-- name, passive mark, reply limit, CPUs and regions, from the cell's two places in the machine
 abbrev pub keptIn : Cell → CommRegion → CellConfig
-keptIn c words = record { name = c .name; passive = words .passive; cpus = c .cpus; «region_count» = c .«region_count»; regions = c .regions }
+keptIn c words = record {
+  name = c .name;
+  passive = words .passive;
+  «reply_limit» = words .«reply_limit»;
+  cpus = c .cpus;
+  «region_count» = c .«region_count»;
+  regions = c .regions;
+}
 
 abbrev pub kept : Machine → ℕ → CellConfig
 kept m id = keptIn (cellAt m id) (commAt m id)

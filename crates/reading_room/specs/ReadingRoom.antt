@@ -42,16 +42,31 @@ box =
     0x54 ∷ 0x53 ∷ 0x53 ∷ 0 ∷ bytes 2 1 ++ bytes 2 1 ++ padded 32 systemName ++ bytes 8 15 ++ bytes 2 4 ++ replicate 6 0 ++ bytes 8 0x3f000000 ++ bytes 8 0x1000000
     ++ bytes 4 100 ++ bytes 4 10 ++ bytes 4 0 ++ bytes 4 0 ++ bytes 2 0 ++ replicate 6 0 ++ region 0 0 0x3f000000 7
 
--- a cell record: flags, name, CPUs, the count of its regions, and the regions
-unfoldable pub cell : ℕ → List ℕ → ℕ → ℕ → List ℕ → List ℕ
-cell flags name cpus count regions =
-    0x54 ∷ 0x53 ∷ 0x43 ∷ 0 ∷ bytes 2 1 ++ bytes 2 flags ++ padded 32 name ++ bytes 8 cpus ++ bytes 2 count ++ replicate 6 0 ++ regions
+-- a cell record: version, reply limit, flags, name, CPUs, the count of its regions, and the regions
+unfoldable pub cellRecord : ℕ → ℕ → ℕ → List ℕ → ℕ → ℕ → List ℕ → List ℕ
+cellRecord version limit flags name cpus count regions =
+    0x54 ∷ 0x53 ∷ 0x43 ∷ 0 ∷ bytes 2 version ++ bytes 2 flags ++ padded 32 name ++ bytes 8 cpus ++ bytes 2 count ++ bytes 2 limit ++ replicate 4 0 ++ regions
+
+-- of version 1, which has no limit, and of version 2
+abbrev pub cell : ℕ → List ℕ → ℕ → ℕ → List ℕ → List ℕ
+cell flags name cpus count regions = cellRecord 1 0 flags name cpus count regions
+
+abbrev pub limitedCell : ℕ → ℕ → List ℕ → ℕ → ℕ → List ℕ → List ℕ
+limitedCell limit flags name cpus count regions = cellRecord 2 limit flags name cpus count regions
 
 -- "Cell `search`: CPUs 12, not passive, region at 0x3a000000 size 0x1000000 cell address 0 flags 23, comm region at cell address 0x1000000"
+abbrev pub searchName : List ℕ
+searchName = 0x73 ∷ 0x65 ∷ 0x61 ∷ 0x72 ∷ 0x63 ∷ 0x68 ∷ []
+
+abbrev pub searchRegions : List ℕ
+searchRegions = region 0x3a000000 0 0x1000000 23 ++ region 0 0x1000000 4096 11
+
 unfoldable pub search : List ℕ
-search =
-    cell 0 (0x73 ∷ 0x65 ∷ 0x61 ∷ 0x72 ∷ 0x63 ∷ 0x68 ∷ []) 12 2
-    (region 0x3a000000 0 0x1000000 23 ++ region 0 0x1000000 4096 11)
+search = cell 0 searchName 12 2 searchRegions
+
+-- the same with a reply limit
+unfoldable pub limitedSearch : ℕ → List ℕ
+limitedSearch limit = limitedCell limit 0 searchName 12 2 searchRegions
 
 -- "`index`, CPUs 2, passive, no regions, 56 bytes"
 unfoldable pub index : List ℕ

@@ -21,7 +21,7 @@ use Rattle.machine_state.specs.declared.Stepped.{Stepped}
 use Rattle.rules.specs.State.{rootId, withWaiting, answered}
 use Rattle.rules.specs.Effects.{counted, callCounter, exitCounter, stored, faulted}
 use Rattle.rules.specs.Create.{otherCellLocked, freeId}
-use Rattle.rules.specs.Asking.{isDestroy, asking, telling, waitFor, finished, ask, poll, pollCell}
+use Rattle.rules.specs.Asking.{isDestroy, asking, telling, waitFor, finished, ask, poll, cutsOff, heardAt, heardIn, pollCell}
 use Rattle.rules.specs.Calls.{call}
 use Rattle.rules.specs.Step.{obeyed, step}
 use Rattle.rules.specs.Answers.{isNegative, isUnobeyed}
@@ -73,9 +73,9 @@ ask-leaves : (k m : Machine) (kind : CallKind) (target : ℕ) (new : CellConfig)
     → Leaves k m (ask kind target 0 new m)
 ask-leaves k m kind target new unlocked =
     ask-cases (Leaves k m) kind target 0 new m
-    (λ c l. waits-well k m kind (asking target c) _ m)
+    (λ c l. waits-well k m kind (asking target c 0) _ m)
     (λ locked. absurd (true≢false (sym locked ∙ unlocked)))
-    (λ c l. waits-well k m kind (telling target c) _ _)
+    (λ c l. waits-well k m kind (telling target c 0) _ _)
     (λ n. ends-well k m n _)
 
 call-leaves : (k m : Machine) (cpu code a1 a2 : ℕ) (bytes : List ℕ) → Leaves k m (call cpu code a1 a2 bytes m)
@@ -91,24 +91,33 @@ call-leaves k m cpu code a1 a2 bytes =
       destroys = λ e may. ask-leaves k m Destroy a1 (cellOf bytes) (may .unlocked);
     })
 
-poll-leaves : (w : Waiting) (new : CellConfig) (m : Machine) → Leaves m (withWaiting NoCall m) (poll w new m)
-unfolding poll isUnobeyed finished
+poll-leaves : (w : Waiting) (new : CellConfig) (m : Machine) → Leaves m (withWaiting NoCall (heardIn w m)) (poll w new m)
+unfolding poll isUnobeyed finished heardIn heardAt cutsOff
 poll-leaves NoCall new m = words-keep m (withWaiting NoCall m) Idle refl
 poll-leaves (Pending kind stage) new m = by-stage (stage .telling)
   where
-    left : Machine
-    left = withWaiting NoCall m
+    target : ℕ
+    target = stage .target
 
-    by-stage : (b : Bool) → Leaves m left (pollCell kind (record { target = stage .target; cell = stage .cell; telling = b }) new m)
+    cell : ℕ
+    cell = stage .cell
+
+    heard : Machine
+    heard = heardAt stage m
+
+    left : Machine
+    left = withWaiting NoCall heard
+
+    by-stage : (b : Bool) → Leaves m left (pollCell kind (record { target = target; cell = cell; telling = b; polls = stage .polls }) new m)
     by-stage true =
-        poll-telling (Leaves m left) kind (stage .target) (stage .cell) new m (wait-well m left (stage .cell) m)
-        (λ c l. waits-well m left kind (telling (stage .target) c) _ m)
-        (λ n. ends-well m left n m)
+        poll-telling (Leaves m left) kind target cell (stage .polls) new m (λ u. wait-well m left cell _)
+        (λ c l. waits-well m left kind (telling target c 0) _ heard)
+        (λ n. ends-well m left n heard)
     by-stage false =
-        poll-asking (Leaves m left) kind (stage .target) (stage .cell) new m (wait-well m left (stage .cell) m)
+        poll-asking (Leaves m left) kind target cell (stage .polls) new m (λ u. wait-well m left cell _)
         (code-leaves m left _)
-        (λ c l. waits-well m left kind (asking (stage .target) c) _ m)
-        (λ c l. waits-well m left kind (telling (stage .target) c) _ _)
+        (λ c l. waits-well m left kind (asking target c 0) _ heard)
+        (λ c l. waits-well m left kind (telling target c 0) _ _)
         (λ n. ends-well m left n _)
 
 -- ---- events

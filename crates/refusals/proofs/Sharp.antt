@@ -13,7 +13,7 @@ use Rattle.machine_state.specs.declared.Answer.{Answer}
 use Rattle.machine_state.specs.declared.Machine.{Machine}
 use Rattle.rules.specs.State.{rootId, cellAt, cpuAt, commAt, answered}
 use Rattle.rules.specs.Effects.{counted, callCounter}
-use Rattle.rules.specs.Run.{Manager, Line, Happened, happens, run}
+use Rattle.rules.specs.Run.{Manager, Line, Happened, happens, run, after}
 use Rattle.rules.specs.Step.{step}
 use Rattle.base.specs.Lists as Lists
 use Rattle.base.specs.Rules as Rules
@@ -40,13 +40,13 @@ use Rattle.refusals.specs.AtOnce as AtOnce
 use Rattle.refusals.specs.WholeCall as WholeCall
 use Rattle.refusals.specs.WhenRefused as WhenRefused
 use Rattle.refusals.specs.Wrong as Wrong
-use Rattle.reading_room.specs.ReadingRoom.{phaseNumber, booted, started, withNotes, logStore, logPoll}
+use Rattle.reading_room.specs.ReadingRoom.{limitedSearch, notes, phaseNumber, booted, started, withNotes, logCall, logCreate, logStore, logPoll}
 use Rattle.rules.specs.Unobeyed.{isObeyed}
 use Rattle.rules.specs.Answers.{isNegative, isUnobeyed, isWait}
 use Rattle.refusals.specs.AtOnce.{refusalLeaves, UnobeyedKeeps, RefusedAtOnce}
-use Rattle.refusals.specs.WholeCall.{ownPolls, endsRefused, setAside, nowWaited, OnlyMessages, RefusedKeeps}
+use Rattle.refusals.specs.WholeCall.{ownPolls, endsRefused, setAside, nowWaited, cutOffBy, OnlyMessages, RefusedKeeps}
 use Rattle.refusals.specs.WhenRefused.{refuses, NegativeIsRefusal}
-use Rattle.refusals.specs.Wrong.{countsUnobeyed, countsNoRefusal, leavesMessage, loadsFirst, messagesAnother, stopsHeard, doesNothing, answersZero, refusesAll}
+use Rattle.refusals.specs.Wrong.{countsUnobeyed, countsNoRefusal, leavesMessage, loadsFirst, messagesAnother, stopsHeard, cutsOffAnother, doesNothing, answersZero, refusesAll}
 
 -- a figure of two machines that are said to be equal
 unequal : (figure : Machine → ℕ) (m k : Machine) → eqb (figure m) (figure k) ≡ false → m ≡ k → ⊥
@@ -62,7 +62,10 @@ to-cell id m = commAt m id .«msg_to_cell»
 phase : ℕ → Machine → ℕ
 phase id m = phaseNumber (cellAt m id .phase)
 
-isStopped : ℕ → Machine → ℕ
+pub state : ℕ → Machine → ℕ
+state id m = commAt m id .«cell_state»
+
+pub isStopped : ℕ → Machine → ℕ
 isStopped cpu m = elim (cpuAt m cpu .stopped) [ true ↦ 1 | false ↦ 0 ]
 
 -- ---- the runs
@@ -90,6 +93,22 @@ firstPoll = getD disables 0 (happens step logPoll booted)
 
 waitedFor : ℕ
 waitedFor = nowWaited rootId (answerOf stopsHeard (Call 0 0 0 0) withNotes)
+
+-- `search` with a limit of one poll, started beside `notes`. Destroy of it: it hangs, `notes` locks the configuration, and the poll cuts it off
+pub hung : Machine
+hung = after step booted (logCreate 0 (limitedSearch 1) ∷ logCreate 0 notes ∷ logCall 0 2 1 0 ∷ logCall 0 2 2 0 ∷ [])
+
+pub hangs : List Line
+hangs = logStore 1 2 1 ∷ logPoll ∷ []
+
+hungPolls : Manager → List Happened
+hungPolls manager = ownPolls (run manager (left manager (Call 0 4 1 0) hung) hangs)
+
+pub cutPoll : Manager → Happened
+cutPoll manager = getD (hungPolls manager) 0 (happens step logPoll booted)
+
+hungWaited : ℕ
+hungWaited = nowWaited rootId (answerOf cutsOffAnother (Call 0 4 1 0) hung)
 
 -- what a call of CPU 0 may change is set aside: of the machine that a manager left, and of the one that it met, the caller counted
 aside : Manager → Event → Machine → Machine → Machine
@@ -119,15 +138,25 @@ record Runs : Type 0 where
   stops-denied : endsRefused (run stopsHeard (left stopsHeard (Call 0 0 0 0) withNotes) onlySearch) ≡ true
   stops-polls : ltb 0 (length disables) ≡ true
   stops-cpu :
-      eqb (isStopped 2 (setAside waitedFor (firstPoll .answer) (firstPoll .after))) (isStopped 2 (setAside waitedFor (firstPoll .answer) (firstPoll .before)))
+      eqb (isStopped 2 (setAside waitedFor (firstPoll .answer) (firstPoll .after))) (isStopped 2 (setAside waitedFor (firstPoll .answer) (cutOffBy (firstPoll .answer) (firstPoll .before))))
       ≡ false
+  hung-waits : isWait (answerOf cutsOffAnother (Call 0 4 1 0) hung) ≡ true
+  hung-refused : endsRefused (run cutsOffAnother (left cutsOffAnother (Call 0 4 1 0) hung) hangs) ≡ true
+  hung-polls : ltb 0 (length (hungPolls cutsOffAnother)) ≡ true
+  hung-other :
+      let h = cutPoll cutsOffAnother in
+      eqb (state 2 (setAside hungWaited (h .answer) (h .after))) (state 2 (setAside hungWaited (h .answer) (cutOffBy (h .answer) (h .before)))) ≡ false
+  ours-hung-waits : isWait (answerOf step (Call 0 4 1 0) hung) ≡ true
+  ours-hung-refused : endsRefused (run step (left step (Call 0 4 1 0) hung) hangs) ≡ true
+  ours-failed : eqb (state 1 (cutPoll step .after)) 3 ≡ true
+  ours-stopped : eqb (isStopped 2 (cutPoll step .after)) 1 ≡ true
   ours-waits : isWait (answerOf step (Call 0 4 1 0) started) ≡ true
   ours-denied : endsRefused (run step (left step (Call 0 4 1 0) started) denies) ≡ true
   code-8 : (isObeyed (Call 0 8 0 0) booted && refuses (Call 0 8 0 0) [] booted) ≡ true
   code-5 : (isObeyed (Call 0 5 4 0) booted && refuses (Call 0 5 4 0) [] booted) ≡ false
 
 runs : Runs
-unfolding Lists.all Lists.any Lists.pairwise Lists.from Lists.same Rules.firstRule CpuSet.member CpuSet.numberOf CpuSet.subset CpuSet.meets CpuSet.isEmpty CpuSet.union CpuSet.without CpuSet.below CpuSet.countBelow CpuSet.count Fields.littleEndian Fields.field Fields.zeros Fields.leading Fields.isName Fields.padded Regions.regionOf Regions.noRegion Regions.wholePages Regions.placed Regions.flagsOk Regions.commOk Regions.overlap Regions.inside Regions.overlapVirt Regions.overlapPhys Regions.apart Regions.clearOf Regions.insidePhys Tables.regionAt Tables.regionsOf Tables.tableOf SystemRecord.systemOf SystemRecord.systemForm SystemRecord.bootRegionOk SystemRecord.systemValid SystemRecord.outOfRange SystemRecord.overdrawn SystemRecord.bootAnswer SystemRecord.readSystem CellRecord.cellOf CellRecord.cellForm CellRecord.cellRegionOk CellRecord.cellValid CellRecord.cellAnswer CellRecord.readCell Machine.freshCpu Machine.noComm Machine.noCell Machine.firstMachine Machine.powerAfter Machine.bootOf Room.region Room.box Room.cell Room.search Room.index Room.notes Run.after Run.run Room.booted Room.started Room.withNotes Room.phaseNumber State.first State.hasId State.active State.waits State.withWaiting State.withPower State.withPool State.withIds State.withRootCpus State.withCell State.withComm State.withCpus State.answered Unobeyed.isOn Unobeyed.storeDenied Unobeyed.unobeyed Queries.getInfo Queries.getState Queries.cpuGetInfo Create.otherCellLocked Create.invalid Create.nameInUse Create.conflict Create.conflicts Create.regionInUse Create.busy Create.freeId Create.noRoom Effects.bump Effects.countExit Effects.counted Effects.storeWord Effects.stored Effects.failCpu Effects.allFailed Effects.cellFailed Effects.faulted Effects.changeIn Effects.changeCpus Effects.cpusChanged Effects.startCpu Effects.stopCpu Effects.addId Effects.dropId Effects.newCell Effects.newComm Effects.cellCreated Effects.withPhase Effects.inPhase Effects.clearWords Effects.cellStarted Effects.cellLoadable Effects.cellDestroyed Effects.allDestroyed Effects.disabled Effects.effect Asking.mayBeMessaged Asking.nextToMessage Asking.asks Asking.tells Asking.isDestroy Asking.message Asking.waitFor Asking.finished Asking.endCode Asking.tell Asking.carryOut Asking.noneToAsk Asking.ask Asking.isHeard Asking.consents Asking.hear Asking.pollCell Asking.poll Calls.disableCall Calls.createCall Calls.targetCall Calls.callByCode Calls.call Step.obeyed Step.step CommRegion.bytes total to-cell phase isStopped left onlySearch disables firstPoll waitedFor WholeCall.nowWaited answerOf aside Answers.isNegative Answers.isUnobeyed AtOnce.refusalLeaves Run.isPoll Answers.isCode Answers.isWait WholeCall.ownPolls WholeCall.setAside Unobeyed.isObeyed WhenRefused.callRefused WhenRefused.waitingRefused WhenRefused.refuses Wrong.onCall Wrong.countsUnobeyed Wrong.countsNoRefusal Wrong.withRequest Wrong.leavesMessage Wrong.loadsFirst Wrong.messagesAnother Wrong.stopsHeard Wrong.doesNothing Wrong.answersZero Wrong.refusesAll
+unfolding Lists.all Lists.any Lists.pairwise Lists.from Lists.same Rules.firstRule CpuSet.member CpuSet.numberOf CpuSet.subset CpuSet.meets CpuSet.isEmpty CpuSet.union CpuSet.without CpuSet.below CpuSet.countBelow CpuSet.count Fields.littleEndian Fields.field Fields.zeros Fields.leading Fields.isName Fields.padded Regions.regionOf Regions.noRegion Regions.wholePages Regions.placed Regions.flagsOk Regions.commOk Regions.overlap Regions.inside Regions.overlapVirt Regions.overlapPhys Regions.apart Regions.clearOf Regions.insidePhys Tables.regionAt Tables.regionsOf Tables.tableOf SystemRecord.systemOf SystemRecord.systemForm SystemRecord.bootRegionOk SystemRecord.systemValid SystemRecord.outOfRange SystemRecord.overdrawn SystemRecord.bootAnswer SystemRecord.readSystem CellRecord.cellOf CellRecord.versionOk CellRecord.limitOk CellRecord.cellForm CellRecord.cellRegionOk CellRecord.cellValid CellRecord.cellAnswer CellRecord.readCell Machine.freshCpu Machine.noComm Machine.noCell Machine.firstMachine Machine.powerAfter Machine.bootOf Room.region Room.box Room.cellRecord Room.search Room.limitedSearch Room.index Room.notes Run.after Run.run Room.booted Room.started Room.withNotes Room.phaseNumber State.first State.hasId State.active State.waits State.withWaiting State.withPower State.withPool State.withIds State.withRootCpus State.withCell State.withComm State.withCpus State.answered Unobeyed.isOn Unobeyed.storeDenied Unobeyed.unobeyed Queries.getInfo Queries.getState Queries.cpuGetInfo Create.otherCellLocked Create.invalid Create.nameInUse Create.conflict Create.conflicts Create.regionInUse Create.busy Create.freeId Create.noRoom Effects.bump Effects.countExit Effects.counted Effects.storeWord Effects.stored Effects.failCpu Effects.allFailed Effects.cellFailed Effects.faulted Effects.changeIn Effects.changeCpus Effects.cpusChanged Effects.startCpu Effects.stopCpu Effects.addId Effects.dropId Effects.newCell Effects.newComm Effects.cellCreated Effects.withPhase Effects.inPhase Effects.clearWords Effects.cellStarted Effects.cellLoadable Effects.cellCutOff Effects.cellDestroyed Effects.allDestroyed Effects.disabled Effects.effect Asking.mayBeMessaged Asking.nextToMessage Asking.asks Asking.tells Asking.isDestroy Asking.message Asking.waitFor Asking.finished Asking.endCode Asking.tell Asking.carryOut Asking.noneToAsk Asking.ask Asking.isHeard Asking.consents Asking.hear Asking.isLastPoll Asking.pollsAfter Asking.withPolls Asking.cutsOff Asking.hearsAt Asking.heardAt Asking.stillWaits Asking.heardIn Asking.pollCell Asking.poll Calls.disableCall Calls.createCall Calls.targetCall Calls.callByCode Calls.call Step.obeyed Step.step CommRegion.bytes total to-cell phase isStopped left onlySearch disables firstPoll waitedFor state hung hangs hungPolls cutPoll hungWaited WholeCall.nowWaited answerOf aside Answers.isNegative Answers.isUnobeyed AtOnce.refusalLeaves Run.isPoll Answers.isCode Answers.isWait WholeCall.ownPolls WholeCall.setAside WholeCall.cutOffBy Unobeyed.isObeyed WhenRefused.callRefused WhenRefused.waitingRefused WhenRefused.refuses Wrong.onCall Wrong.countsUnobeyed Wrong.countsNoRefusal Wrong.withRequest Wrong.leavesMessage Wrong.loadsFirst Wrong.messagesAnother Wrong.stopsHeard Wrong.cutsOffAnother Wrong.doesNothing Wrong.answersZero Wrong.refusesAll
 runs = record {
   outside = refl;
   outside-counted = refl;
@@ -145,6 +174,14 @@ runs = record {
   stops-denied = refl;
   stops-polls = refl;
   stops-cpu = refl;
+  hung-waits = refl;
+  hung-refused = refl;
+  hung-polls = refl;
+  hung-other = refl;
+  ours-hung-waits = refl;
+  ours-hung-refused = refl;
+  ours-failed = refl;
+  ours-stopped = refl;
   ours-waits = refl;
   ours-denied = refl;
   code-8 = refl;
@@ -155,6 +192,12 @@ runs = record {
 pub denied-call : (isWait (step (Call 0 4 1 0) [] started .answer) ≡ true) × (endsRefused (run step (step (Call 0 4 1 0) [] started .machine) denies) ≡ true)
 unfolding left answerOf
 denied-call = (runs .ours-waits, runs .ours-denied)
+
+-- and so is Destroy of a `search` that hangs: refused at the poll that cuts it off, it leaves it failed and stopped
+pub cut-off-call : (endsRefused (run step (step (Call 0 4 1 0) [] hung .machine) hangs) ≡ true)
+    × (eqb (state 1 (cutPoll step .after)) 3 ≡ true) × (eqb (isStopped 2 (cutPoll step .after)) 1 ≡ true)
+unfolding left answerOf
+cut-off-call = (runs .ours-hung-refused, runs .ours-failed, runs .ours-stopped)
 
 -- ---- what they refute
 
@@ -181,7 +224,7 @@ messages-another claim =
 
 -- the first of some steps
 first-kept : (waited : ℕ) (hs : List Happened) (d : Happened) → ltb 0 (length hs) ≡ true → OnlyMessages waited hs
-    → let h = getD hs 0 d in setAside waited (h .answer) (h .after) ≡ setAside waited (h .answer) (h .before)
+    → let h = getD hs 0 d in setAside waited (h .answer) (h .after) ≡ setAside waited (h .answer) (cutOffBy (h .answer) (h .before))
 unfolding OnlyMessages
 first-kept waited [] d l o = absurd (true≢false (sym l))
 first-kept waited (h ∷ hs) d l o = o .0
@@ -192,6 +235,13 @@ stops-heard claim =
     unequal (isStopped 2) _ _ (runs .stops-cpu)
     (first-kept waitedFor disables (happens step logPoll booted) (runs .stops-polls)
     (claim 0 0 0 0 [] withNotes onlySearch (runs .stops-waits) (runs .stops-denied) .polled))
+
+pub cuts-off-another : RefusedKeeps cutsOffAnother → ⊥
+unfolding left answerOf cutPoll hungPolls hungWaited
+cuts-off-another claim =
+    unequal (state 2) _ _ (runs .hung-other)
+    (first-kept hungWaited (hungPolls cutsOffAnother) (happens step logPoll booted) (runs .hung-polls)
+    (claim 0 4 1 0 [] hung hangs (runs .hung-waits) (runs .hung-refused) .polled))
 
 pub does-nothing : NegativeIsRefusal doesNothing → ⊥
 unfolding doesNothing answered isNegative

@@ -27,7 +27,7 @@ use Rattle.rules.specs.State.{rootId, bootCpus, cpuAt, commAt, stateAt, live, a
 use Rattle.rules.specs.Queries.{getInfo, getState, cpuGetInfo}
 use Rattle.rules.specs.Effects.{counted, callCounter}
 use Rattle.rules.specs.Create.{someCellLocked, otherCellLocked, tooLong, invalid, nameInUse, busy, regionInUse, freeId, noRoom}
-use Rattle.rules.specs.Asking.{nextToMessage, asks, isDestroy, asking, waitFor, finished, tell, carryOut, noneToAsk, ask, isHeard, consents, hear, pollCell, poll, shutdownRequest}
+use Rattle.rules.specs.Asking.{nextToMessage, asks, isDestroy, asking, waitFor, finished, tell, carryOut, noneToAsk, ask, consents, hear, hearsAt, heardAt, stillWaits, pollCell, poll, shutdownRequest}
 use Rattle.rules.specs.Calls.{cellCreate, cellStart, cellSetLoadable, cellDestroy, hypervisorGetInfo, cellGetState, cpuGetInfoCode, ends, disableCall, createCall, targetCall, callByCode, call}
 use Rattle.rules.specs.Step.{obeyed, step}
 use Rattle.rules.specs.Unobeyed.{isObeyed}
@@ -259,16 +259,16 @@ poll-negative : (w : Waiting) (new : CellConfig) (m : Machine) → negative (pol
 unfolding poll pollCell hear ask noneToAsk waitingRefused negative isNegative answered waitFor
 poll-negative NoCall new m = refl
 poll-negative (Pending kind stage) new m =
-    let words = commAt m (stage .cell) in
-    let next = nextToMessage (asks kind (stage .target)) (stage .cell) m in
-    heard-rows (isHeard words) (stage .telling) (consents words) (ltb next noId) (isDestroy kind && otherCellLocked (stage .target) m) m
-    (tell kind (stage .target) (stage .cell) m)
-    (waitFor kind (asking (stage .target) next) shutdownRequest m)
-    (carryOut kind (stage .target) new m)
-    (answered (Wait (stage .cell)) m)
-    (tell-well kind (stage .target) (stage .cell) m)
+    let heard = heardAt stage m in
+    let next = nextToMessage (asks kind (stage .target)) (stage .cell) heard in
+    heard-rows (hearsAt stage m) (stage .telling) (consents (commAt heard (stage .cell))) (ltb next noId) (isDestroy kind && otherCellLocked (stage .target) heard) heard
+    (tell kind (stage .target) (stage .cell) heard)
+    (waitFor kind (asking (stage .target) next 0) shutdownRequest heard)
+    (carryOut kind (stage .target) new heard)
+    (answered (Wait (stage .cell)) (stillWaits kind stage m))
+    (tell-well kind (stage .target) (stage .cell) heard)
     refl
-    (carry-well kind (stage .target) new m)
+    (carry-well kind (stage .target) new heard)
     refl
 
 -- ---- events

@@ -1,11 +1,12 @@
 -- A call that ends with a negative code never had its effect. Once it tells, it ends with 0 or the new ID; so each of its steps before a negative
--- end is one that asks, and such a step messages a cell, or hears nothing, or is the end. By induction over the lines after the call: between two
--- polls every event leaves the call waiting as it was. Assumes nothing.
+-- end is one that asks, and such a step messages a cell, or hears nothing, or is the end, on the machine where a limit may have cut a cell off. By
+-- induction over the lines after the call: between two polls every event leaves the call waiting as it was. Assumes nothing.
 use mathlib.Core.Path.{_≡_, refl, sym, ap, _∙_, subst}
-use mathlib.Core.Bool.{true, false, _&&_, true≢false}
+use mathlib.Core.Bool.{Bool, true, false, _&&_, _||_, true≢false}
 use mathlib.Core.List.{List, [], _∷_}
 use Prim.Native.Nat.{ℕ, _<_}
 use native.Mathlib.Omega.{arith}
+use borrow.Author.Tests.{eq-eqb}
 use lib.Dec.{eqb, eqb→eq}
 use lib.IntN.{pos}
 use Rattle.base.specs.Lists.{any}
@@ -24,15 +25,15 @@ use Rattle.machine_state.specs.declared.Answer.{Answer}
 use Rattle.machine_state.specs.declared.Answer.the-variants.{Wait}
 use Rattle.machine_state.specs.declared.Machine.{Machine}
 use Rattle.machine_state.specs.declared.Stepped.{Stepped}
-use Rattle.rules.specs.State.{rootId, waits, withWaiting, answered}
-use Rattle.rules.specs.Effects.{counted, callCounter, effect}
+use Rattle.rules.specs.State.{rootId, commAt, waits, withWaiting, answered}
+use Rattle.rules.specs.Effects.{counted, callCounter, effect, cellCutOff}
 use Rattle.rules.specs.Create.{otherCellLocked, freeId}
-use Rattle.rules.specs.Asking.{isDestroy, asking, telling, waitFor, finished, ask, poll, pollCell, shutdownRequest, reconfigCompleted}
+use Rattle.rules.specs.Asking.{isDestroy, asking, telling, waitFor, finished, ask, poll, isHeard, withPolls, cutsOff, hearsAt, heardAt, heardIn, stillWaits, pollCell, shutdownRequest, reconfigCompleted}
 use Rattle.rules.specs.Calls.{ends}
 use Rattle.rules.specs.Step.{obeyed, step}
 use Rattle.rules.specs.Run.{Line, Happened, run, isPoll}
 use Rattle.rules.specs.Answers.{isNegative, isUnobeyed, isCode, isWait}
-use Rattle.refusals.specs.WholeCall.{ownPolls, endsRefused, setAside, nowWaited, OnlyMessages, OwnStepsKeep, RefusedKeeps}
+use Rattle.refusals.specs.WholeCall.{ownPolls, endsRefused, noneWaiting, uncounted, setAside, nowWaited, cutOffBy, OnlyMessages, OwnStepsKeep, RefusedKeeps}
 use Rattle.rules.proofs.Cases.{word-cases, step-cases, ask-cases, call-cases, poll-asking, poll-telling}
 use Rattle.refusals.proofs.Kept.{step-waits, message-only}
 
@@ -67,10 +68,10 @@ at-poll P kind stage bytes m e word polled =
 Ends : List Line → Machine → Type 0
 Ends ls m = endsRefused (run step m ls) ≡ false
 
-Tells : CallKind → ℕ → ℕ → Machine → Type 0
-Tells kind target c m = m .waiting ≡ Pending kind (telling target c)
+Tells : CallKind → ℕ → ℕ → ℕ → Machine → Type 0
+Tells kind target c polls m = m .waiting ≡ Pending kind (telling target c polls)
 
-module _ (bytes : List ℕ) (ls : List Line) (rest : (kind : CallKind) (target c : ℕ) (m : Machine) → Tells kind target c m → Ends ls m) where
+module _ (bytes : List ℕ) (ls : List Line) (rest : (kind : CallKind) (target c polls : ℕ) (m : Machine) → Tells kind target c polls m → Ends ls m) where
   EndsWell : Machine → Stepped → Type 0
   EndsWell m s = endsRefused (on (pollLine bytes) ls m s) ≡ false
 
@@ -86,17 +87,21 @@ module _ (bytes : List ℕ) (ls : List Line) (rest : (kind : CallKind) (target c
   unfolding EndsWell any ownPolls isPoll isCode isNegative answered finished
   tells-end m n k = refl
 
-  tells-on : (kind : CallKind) (target c : ℕ) (m k : Machine) → EndsWell m (waitFor kind (telling target c) reconfigCompleted k)
+  tells-on : (kind : CallKind) (target c : ℕ) (m k : Machine) → EndsWell m (waitFor kind (telling target c 0) reconfigCompleted k)
   unfolding waitFor Tells withWaiting
-  tells-on kind target c m k = tells-wait m c _ (rest kind target c _ refl)
+  tells-on kind target c m k = tells-wait m c _ (rest kind target c 0 _ refl)
 
-  tells-poll : (kind : CallKind) (target c : ℕ) (m : Machine) → Tells kind target c m → EndsWell m (step Poll bytes m)
+  tells-still : (kind : CallKind) (target c polls : ℕ) (m : Machine) → EndsWell m (answered (Wait c) (stillWaits kind (telling target c polls) m))
+  unfolding stillWaits withPolls Tells withWaiting
+  tells-still kind target c polls m = tells-wait m c _ (rest kind target c _ _ refl)
+
+  tells-poll : (kind : CallKind) (target c polls : ℕ) (m : Machine) → Tells kind target c polls m → EndsWell m (step Poll bytes m)
   unfolding Tells
-  tells-poll kind target c m h =
-      at-poll (EndsWell m) kind (telling target c) bytes m h (λ w u. tells-word m w u (rest kind target c m h))
-      (poll-telling (EndsWell m) kind target c (cellOf bytes) m (tells-wait m c m (rest kind target c m h))
-      (λ d l. tells-on kind target d m m)
-      (λ n. tells-end m n m))
+  tells-poll kind target c polls m h =
+      at-poll (EndsWell m) kind (telling target c polls) bytes m h (λ w u. tells-word m w u (rest kind target c polls m h))
+      (poll-telling (EndsWell m) kind target c polls (cellOf bytes) m (λ u. tells-still kind target c polls m)
+      (λ d l. tells-on kind target d m _)
+      (λ n. tells-end m n _))
 
 event-cases : (P : Event → Type 0) → P Poll → ((e : Event) → isPoll e ≡ false → P e) → (e : Event) → P e
 unfolding isPoll
@@ -110,21 +115,21 @@ event-cases P p f Malformed = f Malformed refl
 abbrev line : Event → List ℕ → Line
 line e bytes = record { event = e; bytes = bytes }
 
-telling-ends : (ls : List Line) (kind : CallKind) (target c : ℕ) (m : Machine) → Tells kind target c m → Ends ls m
+telling-ends : (ls : List Line) (kind : CallKind) (target c polls : ℕ) (m : Machine) → Tells kind target c polls m → Ends ls m
 unfolding Ends Tells EndsWell run any ownPolls waits
-telling-ends [] kind target c m h = refl
-telling-ends (l ∷ ls) kind target c m h =
+telling-ends [] kind target c polls m h = refl
+telling-ends (l ∷ ls) kind target c polls m h =
     event-cases (λ (e : Event). Ends (line e (l .bytes) ∷ ls) m)
-    (tells-poll (l .bytes) ls (telling-ends ls) kind target c m h)
+    (tells-poll (l .bytes) ls (telling-ends ls) kind target c polls m h)
     (λ e p.
     ap (any (λ (s : Happened). isNegative (s .answer))) (between (line e (l .bytes)) ls m p)
-    ∙ telling-ends ls kind target c _ (step-waits (Pending kind (telling target c)) refl e (l .bytes) m p h))
+    ∙ telling-ends ls kind target c polls _ (step-waits (Pending kind (telling target c polls)) refl e (l .bytes) m p h))
     (l .event)
 
 -- ---- a call that asks changes messages only, if it ends with a negative code
 
-Asks : CallKind → ℕ → ℕ → Machine → Type 0
-Asks kind target c m = m .waiting ≡ Pending kind (asking target c)
+Asks : CallKind → ℕ → ℕ → ℕ → Machine → Type 0
+Asks kind target c polls m = m .waiting ≡ Pending kind (asking target c polls)
 
 Keeps : List Line → ℕ → Machine → Type 0
 Keeps ls c m = endsRefused (run step m ls) ≡ true → OnlyMessages c (ownPolls (run step m ls))
@@ -138,62 +143,88 @@ other-cell a b l = is-false (eqb b a) (λ t. not-below a b l (eqb→eq b a t))
 
 -- a step that messages the next cell
 messages : (waited : ℕ) (kind : CallKind) (target c : ℕ) (m : Machine) → waited < c
-    → setAside waited (Wait c) (waitFor kind (asking target c) shutdownRequest m .machine) ≡ setAside waited (Wait c) m
+    → setAside waited (Wait c) (waitFor kind (asking target c 0) shutdownRequest m .machine) ≡ setAside waited (Wait c) m
 unfolding setAside waitFor answered
-messages waited kind target c m l = rw (other-cell waited c l, setAside) (message-only c shutdownRequest (Pending kind (asking target c)) m)
+messages waited kind target c m l = rw (other-cell waited c l, setAside) (message-only c shutdownRequest (Pending kind (asking target c 0)) m)
 
-module _ (bytes : List ℕ) (ls : List Line) (rest : (kind : CallKind) (target c : ℕ) (m : Machine) → Asks kind target c m → Keeps ls c m) where
+-- a poll that hears nothing counts, and cuts off no cell
+still-uncounted : (kind : CallKind) (stage : Stage) (m : Machine) → m .waiting ≡ Pending kind stage → uncounted (stillWaits kind stage m) ≡ uncounted m
+unfolding stillWaits withPolls withWaiting
+still-uncounted kind stage m e = ap (λ (w : Waiting). withWaiting (withPolls 0 w) m) (sym e)
+
+none-cut : (stage : Stage) (m : Machine) → hearsAt stage m ≡ false → heardAt stage m ≡ m
+unfolding hearsAt heardAt
+none-cut stage m u =
+    ap (λ (b : Bool). elim b [ true ↦ cellCutOff (stage .cell) m | false ↦ m ]) (or-right (isHeard (commAt m (stage .cell))) (cutsOff stage m) u)
+  where
+    or-right : (a b : Bool) → (a || b) ≡ false → b ≡ false
+    or-right true b e = absurd (true≢false e)
+    or-right false b e = e
+
+module _ (bytes : List ℕ) (ls : List Line) (rest : (kind : CallKind) (target c polls : ℕ) (m : Machine) → Asks kind target c polls m → Keeps ls c m) where
   KeepsOn : ℕ → Machine → Stepped → Type 0
   KeepsOn c m s = endsRefused (on (pollLine bytes) ls m s) ≡ true → OnlyMessages c (ownPolls (on (pollLine bytes) ls m s))
 
   asks-word : (c : ℕ) (m : Machine) (w : Answer) → isUnobeyed w ≡ true → Keeps ls c m → KeepsOn c m (answered w m)
-  unfolding KeepsOn Keeps OnlyMessages any ownPolls isPoll isCode isNegative answered setAside nowWaited
+  unfolding KeepsOn Keeps OnlyMessages cutOffBy isUnobeyed any ownPolls isPoll isCode isNegative answered setAside nowWaited
   asks-word c m w u k = word-cases (λ (a : Answer). KeepsOn c m (answered a m)) go go go go go go w u
     where
       go : endsRefused (run step m ls) ≡ true → (m ≡ m) × OnlyMessages c (ownPolls (run step m ls))
       go t = (refl, k t)
 
-  asks-wait : (c : ℕ) (m : Machine) → Keeps ls c m → KeepsOn c m (answered (Wait c) m)
-  unfolding KeepsOn Keeps OnlyMessages any ownPolls isPoll isCode isNegative answered nowWaited
-  asks-wait c m k t = (refl, k t)
+  module _ (kind : CallKind) (target c polls : ℕ) (m : Machine) (h : Asks kind target c polls m) where
+    abbrev stage : Stage
+    stage = asking target c polls
 
-  asks-end : (c : ℕ) (m : Machine) → KeepsOn c m (finished EPERM m)
-  unfolding KeepsOn OnlyMessages any ownPolls isPoll isCode isNegative answered finished setAside withWaiting
-  asks-end c m t = (refl, tt)
+    -- the machine on which the poll hears
+    heard-here : heardAt stage m ≡ heardIn (m .waiting) m
+    unfolding Asks heardIn
+    heard-here = ap (λ (w : Waiting). heardIn w m) (sym h)
 
-  asks-on : (kind : CallKind) (target c d : ℕ) (m : Machine) → c < d → KeepsOn c m (waitFor kind (asking target d) shutdownRequest m)
-  unfolding KeepsOn Keeps Asks OnlyMessages any ownPolls isPoll isCode isNegative answered nowWaited waitFor withWaiting
-  asks-on kind target c d m l t = (messages c kind target d m l, rest kind target d _ refl t)
+    asks-wait : hearsAt stage m ≡ false → KeepsOn c m (answered (Wait c) (stillWaits kind stage m))
+    unfolding KeepsOn Keeps Asks OnlyMessages cutOffBy isUnobeyed any ownPolls isPoll isCode isNegative answered nowWaited stillWaits withPolls withWaiting setAside
+    asks-wait u t = (
+      rw (eq-eqb c c refl, setAside) (still-uncounted kind stage m h ∙ ap uncounted (sym (none-cut stage m u) ∙ heard-here)),
+      rest kind target c _ _ refl t,
+    )
+
+    asks-end : KeepsOn c m (finished EPERM (heardAt stage m))
+    unfolding KeepsOn OnlyMessages cutOffBy isUnobeyed any ownPolls isPoll isCode isNegative answered finished setAside withWaiting
+    asks-end t = (ap noneWaiting heard-here, tt)
+
+    asks-on : (d : ℕ) → c < d → KeepsOn c m (waitFor kind (asking target d 0) shutdownRequest (heardAt stage m))
+    unfolding KeepsOn Keeps Asks OnlyMessages cutOffBy isUnobeyed any ownPolls isPoll isCode isNegative answered nowWaited waitFor withWaiting
+    asks-on d l t = (messages c kind target d (heardAt stage m) l ∙ ap (setAside c (Wait d)) heard-here, rest kind target d 0 _ refl t)
 
   -- the effect has come: no negative end follows
-  asks-tells : (kind : CallKind) (target c d : ℕ) (m k : Machine) → KeepsOn c m (waitFor kind (telling target d) reconfigCompleted k)
+  asks-tells : (kind : CallKind) (target c d : ℕ) (m k : Machine) → KeepsOn c m (waitFor kind (telling target d 0) reconfigCompleted k)
   unfolding KeepsOn Ends Tells any ownPolls isPoll isCode isNegative answered waitFor withWaiting
-  asks-tells kind target c d m k t = absurd (true≢false (sym t ∙ telling-ends ls kind target d _ refl))
+  asks-tells kind target c d m k t = absurd (true≢false (sym t ∙ telling-ends ls kind target d 0 _ refl))
 
   asks-ends : (c : ℕ) (m : Machine) (n : ℕ) (k : Machine) → KeepsOn c m (finished (pos n) k)
   unfolding KeepsOn any ownPolls isPoll isCode isNegative answered finished
   asks-ends c m n k t = absurd (true≢false (sym t))
 
-  asks-poll : (kind : CallKind) (target c : ℕ) (m : Machine) → Asks kind target c m → KeepsOn c m (step Poll bytes m)
+  asks-poll : (kind : CallKind) (target c polls : ℕ) (m : Machine) → Asks kind target c polls m → KeepsOn c m (step Poll bytes m)
   unfolding Asks
-  asks-poll kind target c m h =
-      at-poll (KeepsOn c m) kind (asking target c) bytes m h (λ w u. asks-word c m w u (rest kind target c m h))
-      (poll-asking (KeepsOn c m) kind target c (cellOf bytes) m (asks-wait c m (rest kind target c m h))
-      (asks-end c m)
-      (λ d l. asks-on kind target c d m l)
+  asks-poll kind target c polls m h =
+      at-poll (KeepsOn c m) kind (asking target c polls) bytes m h (λ w u. asks-word c m w u (rest kind target c polls m h))
+      (poll-asking (KeepsOn c m) kind target c polls (cellOf bytes) m (asks-wait kind target c polls m h)
+      (asks-end kind target c polls m h)
+      (asks-on kind target c polls m h)
       (λ d l. asks-tells kind target c d m _)
       (λ n. asks-ends c m n _))
 
-asking-keeps : (ls : List Line) (kind : CallKind) (target c : ℕ) (m : Machine) → Asks kind target c m → Keeps ls c m
+asking-keeps : (ls : List Line) (kind : CallKind) (target c polls : ℕ) (m : Machine) → Asks kind target c polls m → Keeps ls c m
 unfolding Keeps Asks KeepsOn OnlyMessages run any ownPolls waits
-asking-keeps [] kind target c m h = λ t. tt
-asking-keeps (l ∷ ls) kind target c m h =
+asking-keeps [] kind target c polls m h = λ t. tt
+asking-keeps (l ∷ ls) kind target c polls m h =
     event-cases (λ (e : Event). Keeps (line e (l .bytes) ∷ ls) c m)
-    (asks-poll (l .bytes) ls (asking-keeps ls) kind target c m h)
+    (asks-poll (l .bytes) ls (asking-keeps ls) kind target c polls m h)
     (λ e p.
     subst (λ (hs : List Happened). any (λ (s : Happened). isNegative (s .answer)) hs ≡ true → OnlyMessages c hs)
     (sym (between (line e (l .bytes)) ls m p))
-    (asking-keeps ls kind target c _ (step-waits (Pending kind (asking target c)) refl e (l .bytes) m p h)))
+    (asking-keeps ls kind target c polls _ (step-waits (Pending kind (asking target c polls)) refl e (l .bytes) m p h)))
     (l .event)
 
 -- ---- the call
@@ -217,9 +248,9 @@ module _ (cpu code a1 a2 : ℕ) (bytes : List ℕ) (m : Machine) (ls : List Line
   unfolding isWait answered finished waitFor Claimed Keeps Asks Ends Tells withWaiting nowWaited counts
   asks-first kind target new unlocked =
       ask-cases Claimed kind target 0 new counts
-      (λ c l w t. record { called = messages rootId kind target c counts l; polled = asking-keeps ls kind target c _ refl t })
+      (λ c l w t. record { called = messages rootId kind target c counts l; polled = asking-keeps ls kind target c 0 _ refl t })
       (λ locked. absurd (true≢false (sym locked ∙ unlocked)))
-      (λ c l w t. absurd (true≢false (sym t ∙ telling-ends ls kind target c _ refl)))
+      (λ c l w t. absurd (true≢false (sym t ∙ telling-ends ls kind target c 0 _ refl)))
       (λ n. no-wait (finished (pos n) (effect kind target new counts)) refl)
 
   call-keeps : Claimed (step (Call cpu code a1 a2) bytes m)

@@ -18,7 +18,7 @@ use Rattle.machine_state.specs.declared.Machine.{Machine}
 use Rattle.rules.specs.State.{rootId, bootCpus, commAt, cpuAt, stateAt, noId, live}
 use Rattle.rules.specs.Unobeyed.{isObeyed}
 use Rattle.rules.specs.Create.{someCellLocked, otherCellLocked, tooLong, invalid, nameInUse, busy, noRoom}
-use Rattle.rules.specs.Asking.{nextToMessage, asks, isDestroy, isHeard, consents}
+use Rattle.rules.specs.Asking.{nextToMessage, asks, isDestroy, consents, hearsAt, heardAt}
 use Rattle.rules.specs.Calls.{cellCreate, cellStart, cellSetLoadable, cellDestroy, hypervisorGetInfo, cellGetState, cpuGetInfoCode}
 use Rattle.rules.specs.Run.{Manager}
 use Rattle.rules.specs.Answers.{isNegative}
@@ -70,13 +70,14 @@ callRefused cpu code a1 a2 bytes m =
 abbrev pub noneLeft : CallKind → Stage → Machine → Bool
 noneLeft kind stage m = not (ltb (nextToMessage (asks kind (stage .target)) (stage .cell) m) noId)
 
--- a poll refuses the waiting call: the cell that it asked denies; or none is left to ask, the call is Destroy and another cell has a lock
+-- a poll refuses the waiting call: the cell that it asked denies; or none is left to ask, the call is Destroy and another cell has a lock. It is
+-- heard on the machine where its limit may have cut it off
 unfoldable pub waitingRefused : Waiting → Machine → Bool
 waitingRefused NoCall m = false
 waitingRefused (Pending kind stage) m =
-    let words = commAt m (stage .cell) in
-    not (stage .telling) && isHeard words
-    && (not (consents words) || noneLeft kind stage m && (isDestroy kind && otherCellLocked (stage .target) m))
+    let heard = heardAt stage m in
+    not (stage .telling) && hearsAt stage m
+    && (not (consents (commAt heard (stage .cell))) || noneLeft kind stage heard && (isDestroy kind && otherCellLocked (stage .target) heard))
 
 unfoldable pub refuses : Event → List ℕ → Machine → Bool
 refuses (Call cpu code a1 a2) bytes m = callRefused cpu code a1 a2 bytes m

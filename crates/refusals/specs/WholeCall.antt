@@ -1,6 +1,7 @@
 -- Demand 1, of a whole call: where a call is left waiting and later ends with a negative code, each of its own steps (the call and the polls up to
 -- its end) changes only the caller's exit counters (the call alone), the field of the waiting call, and the two message words of the cell that
--- this step messages. What other CPUs change between its steps is theirs.
+-- this step messages. C-14: "a call refused at that poll or later leaves such a cell failed and stopped", that is the cell that its limit cut off,
+-- and a poll that hears nothing changes the count of polls alone. What other CPUs change between its steps is theirs.
 use mathlib.Core.Path.{_≡_}
 use mathlib.Core.Bool.{Bool, true, false}
 use mathlib.Core.List.{List, [], _∷_}
@@ -15,9 +16,9 @@ use Rattle.machine_state.specs.declared.Answer.the-variants.{Code, Wait, Done, 
 use Rattle.machine_state.specs.declared.Machine.{Machine}
 use Rattle.rules.specs.State.{rootId, commAt, withWaiting, withComm}
 use Rattle.rules.specs.Effects.{counted, callCounter}
-use Rattle.rules.specs.Asking.{message}
+use Rattle.rules.specs.Asking.{message, withPolls, heardIn}
 use Rattle.rules.specs.Run.{Manager, Line, Happened, happens, run, isPoll}
-use Rattle.rules.specs.Answers.{isNegative, isCode, isWait}
+use Rattle.rules.specs.Answers.{isNegative, isCode, isWait, isUnobeyed}
 
 -- ---- the own steps of a call
 
@@ -43,10 +44,14 @@ noneWaiting m = withWaiting NoCall m
 abbrev pub unmessaged : ℕ → Machine → Machine
 unmessaged id m = withComm id (message 0 (commAt m id)) m
 
+-- without the count of polls of the waiting call
+abbrev pub uncounted : Machine → Machine
+uncounted m = withWaiting (withPolls 0 (m .waiting)) m
+
 -- a machine with what a step may change set aside. The step answers `answer`, and the call waited for cell `waited` before it: `wait` for another
--- cell has messaged that one; `wait` for the same one has heard nothing and changes nothing; with any other answer nobody is messaged
+-- cell has messaged that one; `wait` for the same one has heard nothing and changes the count alone; with any other answer nobody is messaged
 unfoldable pub setAside : ℕ → Answer → Machine → Machine
-setAside waited (Wait id) m = elim (eqb id waited) [ true ↦ m | false ↦ noneWaiting (unmessaged id m) ]
+setAside waited (Wait id) m = elim (eqb id waited) [ true ↦ uncounted m | false ↦ noneWaiting (unmessaged id m) ]
 setAside waited (Code code) m = noneWaiting m
 setAside waited Done m = m
 setAside waited Off m = m
@@ -68,11 +73,16 @@ nowWaited waited Held = waited
 nowWaited waited Denied = waited
 nowWaited waited Idle = waited
 
--- each of some steps changes nothing setAside
+-- the machine that a poll met, with the cell cut off that its limit cuts off at this poll. A poll that is not obeyed cuts off none
+unfoldable pub cutOffBy : Answer → Machine → Machine
+cutOffBy answer m = elim (isUnobeyed answer) [ true ↦ m | false ↦ heardIn (m .waiting) m ]
+
+-- each of some polls cuts off that cell, if any, and changes nothing more than is set aside
 unfoldable pub OnlyMessages : ℕ → List Happened → Type 0
 OnlyMessages waited [] = Unit {0}
 OnlyMessages waited (h ∷ hs) =
-    (setAside waited (h .answer) (h .after) ≡ setAside waited (h .answer) (h .before)) × OnlyMessages (nowWaited waited (h .answer)) hs
+    (setAside waited (h .answer) (h .after) ≡ setAside waited (h .answer) (cutOffBy (h .answer) (h .before)))
+    × OnlyMessages (nowWaited waited (h .answer)) hs
 
 -- ---- the claim: from any machine, so wherever in a list the call stands, and whatever lines follow it
 

@@ -11,7 +11,7 @@ use Rattle.machine_state.specs.declared.Phase.the-variants.{Loading}
 use Rattle.machine_state.specs.declared.Machine.{Machine}
 use Rattle.machine_state.specs.declared.Stepped.{Stepped}
 use Rattle.rules.specs.State.{cellAt, commAt, withComm, answered}
-use Rattle.rules.specs.Effects.{counted, callCounter, cpusChanged, stopCpu, inPhase}
+use Rattle.rules.specs.Effects.{counted, callCounter, cpusChanged, stopCpu, inPhase, cellCutOff}
 use Rattle.rules.specs.Asking.{message, shutdownRequest}
 use Rattle.rules.specs.Calls.{cellSetLoadable}
 use Rattle.rules.specs.Step.{step}
@@ -72,6 +72,16 @@ stopsHeard Poll bytes m =
     let s = step Poll bytes m in
     elim (leftWaiting s) [ true ↦ answered (s .answer) (cpusChanged (cellAt m 1 .cpus) stopCpu (s .machine)) | false ↦ s ]
 stopsHeard Malformed bytes m = step Malformed bytes m
+
+-- the poll that refuses cuts off another cell, too
+unfoldable pub cutsOffAnother : Manager
+cutsOffAnother (Call cpu code a1 a2) bytes m = step (Call cpu code a1 a2) bytes m
+cutsOffAnother (Store cpu word value) bytes m = step (Store cpu word value) bytes m
+cutsOffAnother (Fault cpu) bytes m = step (Fault cpu) bytes m
+cutsOffAnother (Exit cpu kind) bytes m = step (Exit cpu kind) bytes m
+cutsOffAnother Poll bytes m =
+    let s = step Poll bytes m in elim (refusedCall s) [ true ↦ answered (s .answer) (cellCutOff 2 (s .machine)) | false ↦ s ]
+cutsOffAnother Malformed bytes m = step Malformed bytes m
 
 -- nothing is done, and the answer is 0 always
 unfoldable pub doesNothing : Manager

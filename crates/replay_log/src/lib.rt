@@ -13,10 +13,12 @@ ghost use Rattle.texts.specs.Texts.{putLine, putCount};
 ghost use Rattle.replay_log.specs.Feed.{feed, textAtEnd, lineLength, goingOf};
 ghost use Rattle.replay_log.specs.Run.{Puts, Runs};
 use asking::Effect;
+use cpu_table::CpuChange;
 use effects::CellChange;
 use lines::MAX_LINE;
 use lines::MAX_RECORD;
 use machine_state::Answer;
+use machine_state::MAX_CELLS;
 use machine_state::Machine;
 use texts::MAX_TEXT;
 
@@ -177,54 +179,65 @@ pub fn run(kept: Replay, log: &[u8], out: &mut [u8]) -> Ran
             let answer = moves.answer;
             written = put(answer, written, out);
             m.cpus[cpu] = cpu_table::change_cpu(m.cpus[cpu], touch);
-            match effect {
-                Effect::NoEffect => {
-                    m.comms[cell] = comms::change_words(m.comms[cell], words);
-                    waiting = moves.waiting;
-                }
-                Effect::Comes(kind, id) => {
-                    if effects::is_disable(kind) {
-                        let held = manager::with_waiting(m, waiting);
-                        m = effects::disable(held);
+            let cut = d.cut;
+            if MAX_CELLS <= cut {
+                match effect {
+                    Effect::NoEffect => {
                         m.comms[cell] = comms::change_words(m.comms[cell], words);
                         waiting = moves.waiting;
-                    } else {
-                        let i = comms::cell_index(id);
-                        let new = effects::figures_of(&record[0..n]);
-                        let numbers = effects::numbers_after(
-                            kind,
-                            id,
-                            m.cells[i].cpus,
-                            m.cells[i].region_count,
-                            new,
-                            m.pool_used,
-                            m.live_ids,
-                            m.root_cpus,
-                        );
-                        let how = numbers.how;
-                        let before = m.cpus;
-                        m.pool_used = numbers.pool_used;
-                        m.live_ids = numbers.live_ids;
-                        m.root_cpus = numbers.root_cpus;
-                        m.cpus = cpu_table::change_cpus(numbers.cpus, how, before);
-                        m.comms[i] = effects::words_after(kind, id, new, m.comms[i]);
-                        m.comms[cell] = comms::change_words(m.comms[cell], words);
-                        waiting = moves.waiting;
-                        let change = effects::cell_change(kind, id);
-                        match change {
-                            CellChange::Keep => {}
-                            CellChange::New => {
-                                m.cells[i] = effects::new_cell(&record[0..n]);
-                            }
-                            CellChange::Phase(phase) => {
-                                m.cells[i] = effects::with_phase(phase, m.cells[i]);
-                            }
-                            CellChange::Empty => {
-                                m.cells[i] = machine_state::no_cell();
+                    }
+                    Effect::Comes(kind, id) => {
+                        if effects::is_disable(kind) {
+                            let held = manager::with_waiting(m, waiting);
+                            m = effects::disable(held);
+                            m.comms[cell] = comms::change_words(m.comms[cell], words);
+                            waiting = moves.waiting;
+                        } else {
+                            let i = comms::cell_index(id);
+                            let new = effects::figures_of(&record[0..n]);
+                            let numbers = effects::numbers_after(
+                                kind,
+                                id,
+                                m.cells[i].cpus,
+                                m.cells[i].region_count,
+                                new,
+                                m.pool_used,
+                                m.live_ids,
+                                m.root_cpus,
+                            );
+                            let how = numbers.how;
+                            let before = m.cpus;
+                            m.pool_used = numbers.pool_used;
+                            m.live_ids = numbers.live_ids;
+                            m.root_cpus = numbers.root_cpus;
+                            m.cpus = cpu_table::change_cpus(numbers.cpus, how, before);
+                            m.comms[i] = effects::words_after(kind, id, new, m.comms[i]);
+                            m.comms[cell] = comms::change_words(m.comms[cell], words);
+                            waiting = moves.waiting;
+                            let change = effects::cell_change(kind, id);
+                            match change {
+                                CellChange::Keep => {}
+                                CellChange::New => {
+                                    m.cells[i] = effects::new_cell(&record[0..n]);
+                                }
+                                CellChange::Phase(phase) => {
+                                    m.cells[i] = effects::with_phase(phase, m.cells[i]);
+                                }
+                                CellChange::Empty => {
+                                    m.cells[i] = machine_state::no_cell();
+                                }
                             }
                         }
                     }
                 }
+            } else {
+                let before = m.cpus;
+                m.comms[cut] = effects::failed_words(m.comms[cut]);
+                m.cpus = cpu_table::change_cpus(m.cells[cut].cpus, CpuChange::Stop, before);
+                let held = manager::with_waiting(m, waiting);
+                m = effects::carry_out(held, effect, &record[0..n]);
+                m.comms[cell] = comms::change_words(m.comms[cell], words);
+                waiting = moves.waiting;
             }
         }
     }

@@ -15,6 +15,7 @@ use Rattle.cell_record.specs.declared.CellConfig.{CellConfig}
 use Rattle.cell_record.specs.CellRecord.{cellOf}
 use Rattle.machine_state.specs.declared.CallKind.{CallKind}
 use Rattle.machine_state.specs.declared.CallKind.the-variants.{Disable, Create, Start, SetLoadable, Destroy}
+use Rattle.machine_state.specs.declared.Stage.{Stage}
 use Rattle.machine_state.specs.declared.Event.{Event}
 use Rattle.machine_state.specs.declared.Event.the-variants.{Call, Store, Fault, Exit, Poll, Malformed}
 use Rattle.machine_state.specs.declared.Answer.{Answer}
@@ -23,9 +24,9 @@ use Rattle.machine_state.specs.declared.Machine.{Machine}
 use Rattle.machine_state.specs.declared.Stepped.{Stepped}
 use Rattle.rules.specs.State.{rootId, live, commAt, cellIds, noId, first, answered}
 use Rattle.rules.specs.Unobeyed.{unobeyed, isObeyed}
-use Rattle.rules.specs.Effects.{effect}
+use Rattle.rules.specs.Effects.{effect, cellCutOff}
 use Rattle.rules.specs.Create.{someCellLocked, otherCellLocked, tooLong, invalid, nameInUse, busy, freeId, noRoom}
-use Rattle.rules.specs.Asking.{mayBeMessaged, nextToMessage, asks, tells, everyCell, isDestroy, asking, telling, waitFor, finished, endCode, tell, carryOut, noneToAsk, ask, isHeard, consents, hear, pollCell, shutdownRequest, reconfigCompleted}
+use Rattle.rules.specs.Asking.{mayBeMessaged, nextToMessage, asks, tells, everyCell, isDestroy, asking, telling, waitFor, finished, endCode, tell, carryOut, noneToAsk, ask, consents, hear, cutsOff, hearsAt, heardAt, stillWaits, pollCell, shutdownRequest, reconfigCompleted}
 use Rattle.rules.specs.Calls.{hypervisorDisable, cellCreate, cellStart, cellSetLoadable, cellDestroy, ends, disableCall, createCall, targetCall, callByCode, call}
 use Rattle.rules.specs.Step.{obeyed, step}
 use Rattle.rules.specs.Answers.{isUnobeyed}
@@ -123,7 +124,7 @@ end-code P SetLoadable target f = f 0
 end-code P Destroy target f = f 0
 
 pub tell-cases : (P : Stepped → Type 0) (kind : CallKind) (target after : ℕ) (m : Machine)
-    → ((c : ℕ) → after < c → P (waitFor kind (telling target c) reconfigCompleted m))
+    → ((c : ℕ) → after < c → P (waitFor kind (telling target c 0) reconfigCompleted m))
     → ((n : ℕ) → P (finished (pos n) m))
     → P (tell kind target after m)
 unfolding tell
@@ -135,7 +136,7 @@ tell-cases P kind target after m waits ends =
 -- ---- a call that has its effect
 
 pub carry-cases : (P : Stepped → Type 0) (kind : CallKind) (target : ℕ) (new : CellConfig) (m : Machine)
-    → ((c : ℕ) → 0 < c → P (waitFor kind (telling target c) reconfigCompleted (effect kind target new m)))
+    → ((c : ℕ) → 0 < c → P (waitFor kind (telling target c 0) reconfigCompleted (effect kind target new m)))
     → ((n : ℕ) → P (finished (pos n) (effect kind target new m)))
     → P (carryOut kind target new m)
 unfolding carryOut
@@ -145,9 +146,9 @@ carry-cases P kind target new m waits ends =
 -- ---- a call that asks
 
 pub ask-cases : (P : Stepped → Type 0) (kind : CallKind) (target after : ℕ) (new : CellConfig) (m : Machine)
-    → ((c : ℕ) → after < c → P (waitFor kind (asking target c) shutdownRequest m))
+    → ((c : ℕ) → after < c → P (waitFor kind (asking target c 0) shutdownRequest m))
     → ((isDestroy kind && otherCellLocked target m) ≡ true → P (finished EPERM m))
-    → ((c : ℕ) → 0 < c → P (waitFor kind (telling target c) reconfigCompleted (effect kind target new m)))
+    → ((c : ℕ) → 0 < c → P (waitFor kind (telling target c 0) reconfigCompleted (effect kind target new m)))
     → ((n : ℕ) → P (finished (pos n) (effect kind target new m)))
     → P (ask kind target after new m)
 unfolding ask noneToAsk
@@ -156,29 +157,40 @@ ask-cases P kind target after new m waits locked tells ends =
     (λ h. waits _ (next-later (asks kind target) after m h))
     (λ h. by-test P (isDestroy kind && otherCellLocked target m) _ _ locked (λ l. carry-cases P kind target new m tells ends))
 
--- ---- a poll: nothing heard, a denial or a lock, or a move on
+-- ---- a poll: nothing heard, a denial or a lock, or a move on, on the machine where the cell is heard
 
-pub poll-asking : (P : Stepped → Type 0) (kind : CallKind) (target cell : ℕ) (new : CellConfig) (m : Machine)
-    → P (answered (Wait cell) m)
-    → P (finished EPERM m)
-    → ((c : ℕ) → cell < c → P (waitFor kind (asking target c) shutdownRequest m))
-    → ((c : ℕ) → 0 < c → P (waitFor kind (telling target c) reconfigCompleted (effect kind target new m)))
-    → ((n : ℕ) → P (finished (pos n) (effect kind target new m)))
-    → P (pollCell kind (asking target cell) new m)
-unfolding pollCell hear
-poll-asking P kind target cell new m unheard refused waits tells ends =
-    by-test P (isHeard (commAt m cell)) _ _
-    (λ h. by-test P (consents (commAt m cell)) _ _ (λ c. ask-cases P kind target cell new m waits (λ l. refused) tells ends) (λ c. refused))
-    (λ h. unheard)
+-- that is the machine as it was, or with the cell cut off
+pub heard-cases : (P : Machine → Type 0) (stage : Stage) (m : Machine) → P m → P (cellCutOff (stage .cell) m) → P (heardAt stage m)
+unfolding heardAt
+heard-cases P stage m kept cut = by-test P (cutsOff stage m) (cellCutOff (stage .cell) m) m (λ h. cut) (λ h. kept)
 
-pub poll-telling : (P : Stepped → Type 0) (kind : CallKind) (target cell : ℕ) (new : CellConfig) (m : Machine)
-    → P (answered (Wait cell) m)
-    → ((c : ℕ) → cell < c → P (waitFor kind (telling target c) reconfigCompleted m))
-    → ((n : ℕ) → P (finished (pos n) m))
-    → P (pollCell kind (telling target cell) new m)
+pub poll-asking : (P : Stepped → Type 0) (kind : CallKind) (target cell polls : ℕ) (new : CellConfig) (m : Machine)
+    → let stage = asking target cell polls in
+    let heard = heardAt stage m in
+    (hearsAt stage m ≡ false → P (answered (Wait cell) (stillWaits kind stage m)))
+    → P (finished EPERM heard)
+    → ((c : ℕ) → cell < c → P (waitFor kind (asking target c 0) shutdownRequest heard))
+    → ((c : ℕ) → 0 < c → P (waitFor kind (telling target c 0) reconfigCompleted (effect kind target new heard)))
+    → ((n : ℕ) → P (finished (pos n) (effect kind target new heard)))
+    → P (pollCell kind stage new m)
 unfolding pollCell hear
-poll-telling P kind target cell new m unheard tells ends =
-    by-test P (isHeard (commAt m cell)) _ _ (λ h. tell-cases P kind target cell m tells ends) (λ h. unheard)
+poll-asking P kind target cell polls new m unheard refused waits tells ends =
+    let heard = heardAt (asking target cell polls) m in
+    by-test P (hearsAt (asking target cell polls) m) _ _
+    (λ h. by-test P (consents (commAt heard cell)) _ _ (λ c. ask-cases P kind target cell new heard waits (λ l. refused) tells ends) (λ c. refused))
+    unheard
+
+pub poll-telling : (P : Stepped → Type 0) (kind : CallKind) (target cell polls : ℕ) (new : CellConfig) (m : Machine)
+    → let stage = telling target cell polls in
+    let heard = heardAt stage m in
+    (hearsAt stage m ≡ false → P (answered (Wait cell) (stillWaits kind stage m)))
+    → ((c : ℕ) → cell < c → P (waitFor kind (telling target c 0) reconfigCompleted heard))
+    → ((n : ℕ) → P (finished (pos n) heard))
+    → P (pollCell kind stage new m)
+unfolding pollCell hear
+poll-telling P kind target cell polls new m unheard tells ends =
+    by-test P (hearsAt (telling target cell polls) m) _ _
+    (λ h. tell-cases P kind target cell (heardAt (telling target cell polls) m) tells ends) unheard
 
 -- ---- a call: it ends at once with a code and changes nothing more, or its table lets it pass, and it begins to ask
 

@@ -13,13 +13,15 @@ use Rattle.machine_state.specs.declared.CallKind.{CallKind}
 use Rattle.machine_state.specs.declared.CallKind.the-variants.{Disable, Create, Start, SetLoadable, Destroy}
 use Rattle.machine_state.specs.declared.Answer.{Answer}
 use Rattle.machine_state.specs.declared.Answer.the-variants.{Code, Wait}
-use Rattle.rules.specs.State.{cellIds, noId, isFinal, isLocked}
-use Rattle.rules.specs.Asking.{asks, tells, isDestroy, requestApproved}
+use Rattle.rules.specs.State.{cellIds, noId, isFinal, isLocked, running, failed}
+use Rattle.rules.specs.Asking.{asks, tells, isDestroy, requestApproved, isLastPoll, pollsAfter}
 
--- ".. every live cell's record and state": of the record, the ID and whether it is passive. Root, which has neither, is not among them
+-- ".. every live cell's record and state": of the record, the ID, whether it is passive and its reply limit. Root, which has none of these, is
+-- not among them
 pub record Shown : Type 0 where
   pub id : ℕ
   pub passive : Bool
+  pub limit : ℕ
   pub state : ℕ
 
 -- where the account stands: it waits for a cell that it has asked, or told, or it has ended with a code
@@ -28,21 +30,36 @@ pub data Place : Type 0 where
   Tells : ℕ → Place
   Ended : ℤ → Place
 
--- the account: the call with its target (of Create the ID that it chose); where it stands; whether it moved there with the last event, and so
--- messaged the cell that it waits for; and whether the effect came with that move
+-- the cell that its limit cut off with the last event, if there was one
+pub data CutOff : Type 0 where
+  NoneCut : CutOff
+  WasCut : ℕ → CutOff
+
+-- the account: the call with its target (of Create the ID that it chose); where it stands; how many polls since its message have found nothing,
+-- counted where the cell has a limit; whether it moved there with the last event, and so messaged the cell that it waits for; whether the effect
+-- came with that move; and which cell its limit cut off at that poll
 pub record Account : Type 0 where
   pub kind : CallKind
   pub target : ℕ
   pub place : Place
+  pub polls : ℕ
   pub moved : Bool
   pub effect : Bool
+  pub cut : CutOff
 
--- it moves to a place, with the effect on the way or without; or it stays as it is
+-- it moves to a place, with the effect on the way or without; the cell that it heard was cut off; or it stays where it is
 abbrev pub movesTo : CallKind → ℕ → Bool → Place → Account
-movesTo kind target effect place = record { kind = kind; target = target; place = place; moved = true; effect = effect }
+movesTo kind target effect place =
+    record { kind = kind; target = target; place = place; polls = 0; moved = true; effect = effect; cut = NoneCut }
+
+abbrev pub cutting : CutOff → Account → Account
+cutting cut a = record { kind = a .kind; target = a .target; place = a .place; polls = a .polls; moved = a .moved; effect = a .effect; cut = cut }
+
+abbrev pub staysWith : ℕ → Account → Account
+staysWith polls a = record { kind = a .kind; target = a .target; place = a .place; polls = polls; moved = false; effect = false; cut = NoneCut }
 
 abbrev pub stays : Account → Account
-stays a = record { kind = a .kind; target = a .target; place = a .place; moved = false; effect = false }
+stays a = staysWith (a .polls) a
 
 -- "active and not passive"
 abbrev pub messageable : Shown → Bool
@@ -108,10 +125,16 @@ askOn kind target after shown =
 unfoldable pub begun : CallKind → ℕ → List Shown → Account
 begun kind target shown = askOn kind (aboutCell kind target shown) 0 shown
 
--- the state of the cell waited for; one that is not shown is running
-unfoldable pub stateShown : ℕ → List Shown → ℕ
-stateShown id [] = 0
-stateShown id (s ∷ ss) = elim (eqb (s .id) id) [ true ↦ s .state | false ↦ stateShown id ss ]
+-- the cell waited for; one that is not shown is running and has no limit
+unfoldable pub cellShown : ℕ → List Shown → Shown
+cellShown id [] = record { id = id; passive = false; limit = 0; state = running }
+cellShown id (s ∷ ss) = elim (eqb (s .id) id) [ true ↦ s | false ↦ cellShown id ss ]
+
+abbrev pub stateShown : ℕ → List Shown → ℕ
+stateShown id shown = cellShown id shown .state
+
+abbrev pub limitShown : ℕ → List Shown → ℕ
+limitShown id shown = cellShown id shown .limit
 
 -- "From = 0 and state not final .. Otherwise it is heard: a final state counts as consent; else for message 1 only from = 3 consents"
 unfoldable pub heardBy : ℕ → ℕ → Bool
@@ -120,19 +143,34 @@ heardBy reply state = not (eqb reply 0) || isFinal state
 unfoldable pub consentsBy : ℕ → ℕ → Bool
 consentsBy reply state = isFinal state || eqb reply requestApproved
 
+-- C-14: "the cell's state becomes 3 .. and it is heard as final, in document 01's account too"
+unfoldable pub failedShown : ℕ → List Shown → List Shown
+failedShown id [] = []
+failedShown id (s ∷ ss) =
+    record { id = s .id; passive = s .passive; limit = s .limit; state = elim (eqb (s .id) id) [ true ↦ failed | false ↦ s .state ] } ∷ failedShown id ss
+
+-- a cell that has shown neither reply nor final state: at the poll that its limit names it is cut off and heard as `cuts` says; else the account
+-- stays where it is, and counts the poll where the cell has a limit
+unfoldable pub unheardAt : ℕ → Account → List Shown → Account → Account
+unheardAt c a shown cuts =
+    elim (isLastPoll (limitShown c shown) (a .polls)) [ true ↦ cutting (WasCut c) cuts | false ↦ staysWith (pollsAfter (limitShown c shown) (a .polls)) a ]
+
 -- a poll, with the reply of the cell waited for, 0 where there is none: "a cell not heard keeps it as it is; a denial ends it, -1; else it
 -- moves on"; "for message 2 any value serves". An account that has ended stays ended
 unfoldable pub polledAt : Place → Account → ℕ → List Shown → Account
 polledAt (Ended code) a reply shown = stays a
 polledAt (Tells c) a reply shown =
-    elim (heardBy reply (stateShown c shown)) [ true ↦ tellOn (a .kind) (a .target) false c shown | false ↦ stays a ]
+    elim (heardBy reply (stateShown c shown)) [
+      | true ↦ tellOn (a .kind) (a .target) false c shown
+      | false ↦ unheardAt c a shown (tellOn (a .kind) (a .target) false c (failedShown c shown))
+    ]
 polledAt (Asks c) a reply shown =
     elim (heardBy reply (stateShown c shown)) [
       | true ↦ elim (consentsBy reply (stateShown c shown)) [
         | true ↦ askOn (a .kind) (a .target) c shown
         | false ↦ movesTo (a .kind) (a .target) false (Ended EPERM)
       ]
-      | false ↦ stays a
+      | false ↦ unheardAt c a shown (askOn (a .kind) (a .target) c (failedShown c shown))
     ]
 
 unfoldable pub polled : Account → ℕ → List Shown → Account

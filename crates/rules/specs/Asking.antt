@@ -1,8 +1,8 @@
 -- Asking and waiting. Document 01, the section of that name: whom a call messages, what a poll hears, and how a call moves on to its effect
 -- and its end. Every call that may wait goes the same way: it asks, has its effect, and tells; Create has nobody to ask.
 use mathlib.Core.Bool.{Bool, true, false, not, _&&_, _||_}
-use Prim.Native.Nat.{ℕ, _%_, _^_}
-use lib.Dec.{ltb, eqb}
+use Prim.Native.Nat.{ℕ, _+_, _%_, _^_}
+use lib.Dec.{leb, ltb, eqb}
 use lib.IntN.{ℤ, pos}
 use Rattle.base.specs.Rules.{EPERM}
 use Rattle.cell_record.specs.declared.CellConfig.{CellConfig}
@@ -15,8 +15,8 @@ use Rattle.machine_state.specs.declared.Waiting.the-variants.{NoCall, Pending}
 use Rattle.machine_state.specs.declared.Answer.the-variants.{Code, Wait, Idle}
 use Rattle.machine_state.specs.declared.Machine.{Machine}
 use Rattle.machine_state.specs.declared.Stepped.{Stepped}
-use Rattle.rules.specs.State.{commAt, cellIds, noId, first, active, isFinal, withWaiting, withComm, answered}
-use Rattle.rules.specs.Effects.{effect, withMessage, withReply}
+use Rattle.rules.specs.State.{commAt, limitAt, cellIds, noId, first, active, isFinal, withWaiting, withComm, answered}
+use Rattle.rules.specs.Effects.{effect, withMessage, withReply, cellCutOff}
 use Rattle.rules.specs.Create.{otherCellLocked}
 
 -- the messages and the consenting reply, by their names in source document 001
@@ -67,12 +67,12 @@ isDestroy Destroy = true
 unfoldable pub message : ℕ → CommRegion → CommRegion
 message code c = withMessage code (withReply 0 c)
 
--- the stage of a call that waits for a cell that it has asked, or told
-abbrev pub asking : ℕ → ℕ → Stage
-asking target cell = record { target = target; cell = cell; telling = false }
+-- the stage of a call that waits for a cell that it has asked, or told, `polls` polls ago
+abbrev pub asking : ℕ → ℕ → ℕ → Stage
+asking target cell polls = record { target = target; cell = cell; telling = false; polls = polls }
 
-abbrev pub telling : ℕ → ℕ → Stage
-telling target cell = record { target = target; cell = cell; telling = true }
+abbrev pub telling : ℕ → ℕ → ℕ → Stage
+telling target cell polls = record { target = target; cell = cell; telling = true; polls = polls }
 
 -- "message the next cell .. and wait for it"
 unfoldable pub waitFor : CallKind → Stage → ℕ → Machine → Stepped
@@ -96,7 +96,7 @@ unfoldable pub tell : CallKind → ℕ → ℕ → Machine → Stepped
 tell kind target after m =
     let next = nextToMessage everyCell after m in
     elim (ltb next noId) [
-      | true ↦ waitFor kind (telling target next) reconfigCompleted m
+      | true ↦ waitFor kind (telling target next 0) reconfigCompleted m
       | false ↦ finished (endCode kind target) m
     ]
 
@@ -115,7 +115,7 @@ unfoldable pub ask : CallKind → ℕ → ℕ → CellConfig → Machine → Ste
 ask kind target after new m =
     let next = nextToMessage (asks kind target) after m in
     elim (ltb next noId) [
-      | true ↦ waitFor kind (asking target next) shutdownRequest m
+      | true ↦ waitFor kind (asking target next 0) shutdownRequest m
       | false ↦ noneToAsk kind target new m
     ]
 
@@ -138,12 +138,48 @@ hear kind stage new m =
       ]
     ]
 
+-- ---- the reply limit. C-14: "a limit L in polls; 0 means none"
+
+-- "the L-th poll after a message": `polls` came before it. A count past the limit is reached by no start
+unfoldable pub isLastPoll : ℕ → ℕ → Bool
+isLastPoll limit polls = not (eqb limit 0) && leb limit (polls + 1)
+
+-- "where L isn't 0, a waiting call counts the polls since its message"
+unfoldable pub pollsAfter : ℕ → ℕ → ℕ
+pollsAfter limit polls = elim (eqb limit 0) [ true ↦ polls | false ↦ polls + 1 ]
+
+-- the waiting call with another count
+unfoldable pub withPolls : ℕ → Waiting → Waiting
+withPolls polls NoCall = NoCall
+withPolls polls (Pending kind stage) = Pending kind (record { target = stage .target; cell = stage .cell; telling = stage .telling; polls = polls })
+
+-- "If the L-th poll after a message finds neither reply nor final state"; "a reply seen at that poll wins"
+unfoldable pub cutsOff : Stage → Machine → Bool
+cutsOff stage m = not (isHeard (commAt m (stage .cell))) && isLastPoll (limitAt m (stage .cell)) (stage .polls)
+
+-- ".. the cell's state becomes 3, its CPUs stop, and it is heard as final": whether the cell is heard, and the machine on which it is
+unfoldable pub hearsAt : Stage → Machine → Bool
+hearsAt stage m = isHeard (commAt m (stage .cell)) || cutsOff stage m
+
+unfoldable pub heardAt : Stage → Machine → Machine
+heardAt stage m = elim (cutsOff stage m) [ true ↦ cellCutOff (stage .cell) m | false ↦ m ]
+
+-- "a poll answered `wait C` for the same message changes that count and nothing else"
+unfoldable pub stillWaits : CallKind → Stage → Machine → Machine
+stillWaits kind stage m =
+    withWaiting (withPolls (pollsAfter (limitAt m (stage .cell)) (stage .polls)) (Pending kind stage)) m
+
 -- "A poll looks at the cell waited for. From = 0 and state not final: nothing changes, answer `wait C`. Otherwise it is heard"
 unfoldable pub pollCell : CallKind → Stage → CellConfig → Machine → Stepped
 pollCell kind stage new m =
-    elim (isHeard (commAt m (stage .cell))) [ true ↦ hear kind stage new m | false ↦ answered (Wait (stage .cell)) m ]
+    elim (hearsAt stage m) [ true ↦ hear kind stage new (heardAt stage m) | false ↦ answered (Wait (stage .cell)) (stillWaits kind stage m) ]
 
 -- a poll of the waiting call; where none waits the poll is not obeyed
 unfoldable pub poll : Waiting → CellConfig → Machine → Stepped
 poll NoCall new m = answered Idle m
 poll (Pending kind stage) new m = pollCell kind stage new m
+
+-- the machine on which a poll of the waiting call hears
+unfoldable pub heardIn : Waiting → Machine → Machine
+heardIn NoCall m = m
+heardIn (Pending kind stage) m = heardAt stage m

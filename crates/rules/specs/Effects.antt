@@ -46,13 +46,13 @@ counted own cpu m = withCpu cpu (countExit own (cpuAt m cpu)) m
 
 -- the words with another message, reply or state
 abbrev pub withMessage : ℕ → CommRegion → CommRegion
-withMessage value c = record { mapped = c .mapped; passive = c .passive; «msg_to_cell» = value; «reply_from_cell» = c .«reply_from_cell»; «cell_state» = c .«cell_state» }
+withMessage value c = record { mapped = c .mapped; passive = c .passive; «reply_limit» = c .«reply_limit»; «msg_to_cell» = value; «reply_from_cell» = c .«reply_from_cell»; «cell_state» = c .«cell_state» }
 
 abbrev pub withReply : ℕ → CommRegion → CommRegion
-withReply value c = record { mapped = c .mapped; passive = c .passive; «msg_to_cell» = c .«msg_to_cell»; «reply_from_cell» = value; «cell_state» = c .«cell_state» }
+withReply value c = record { mapped = c .mapped; passive = c .passive; «reply_limit» = c .«reply_limit»; «msg_to_cell» = c .«msg_to_cell»; «reply_from_cell» = value; «cell_state» = c .«cell_state» }
 
 abbrev pub withState : ℕ → CommRegion → CommRegion
-withState value c = record { mapped = c .mapped; passive = c .passive; «msg_to_cell» = c .«msg_to_cell»; «reply_from_cell» = c .«reply_from_cell»; «cell_state» = value }
+withState value c = record { mapped = c .mapped; passive = c .passive; «reply_limit» = c .«reply_limit»; «msg_to_cell» = c .«msg_to_cell»; «reply_from_cell» = c .«reply_from_cell»; «cell_state» = value }
 
 -- "store (any u32 to word 0, 1 or 2)"
 unfoldable pub storeWord : ℕ → ℕ → CommRegion → CommRegion
@@ -98,7 +98,7 @@ cpusChanged set change m = withCpus (changeCpus set change (m .cpus)) m
 unfoldable pub startCpu : Cpu → Cpu
 startCpu p = record { cell = p .cell; stopped = false; failed = false; counters = p .counters }
 
--- Set Loadable: "CPUs stopped (failed marks stay)"
+-- Set Loadable: "CPUs stopped (failed marks stay)"; a cell that is cut off: "its CPUs stop"
 unfoldable pub stopCpu : Cpu → Cpu
 stopCpu p = record { cell = p .cell; stopped = true; failed = p .failed; counters = p .counters }
 
@@ -125,7 +125,7 @@ newCell new = record { phase = Suspended; name = new .name; cpus = new .cpus; «
 
 -- "state 2, messages 0"
 unfoldable pub newComm : CellConfig → CommRegion
-newComm new = record { mapped = any comm (cellRegions new); passive = new .passive; «msg_to_cell» = 0; «reply_from_cell» = 0; «cell_state» = shutDown }
+newComm new = record { mapped = any comm (cellRegions new); passive = new .passive; «reply_limit» = new .«reply_limit»; «msg_to_cell» = 0; «reply_from_cell» = 0; «cell_state» = shutDown }
 
 -- Create: "smallest free ID from 1; pool use grows by 2 + region count; CPUs leave root, stopped, unfailed, counters zero; phase suspended;
 -- state 2, messages 0"
@@ -157,6 +157,12 @@ cellStarted id m = inPhase id Started (cpusChanged (cellAt m id .cpus) startCpu 
 -- Set Loadable: "CPUs stopped (failed marks stay), state 2, phase loading"
 unfoldable pub cellLoadable : ℕ → Machine → Machine
 cellLoadable id m = inPhase id Loading (cpusChanged (cellAt m id .cpus) stopCpu (withComm id (withState shutDown (commAt m id)) m))
+
+-- ---- a cell that its reply limit cuts off
+
+-- C-14: "the cell's state becomes 3, its CPUs stop". It amends the rule that only a cell or a fault makes it failed
+unfoldable pub cellCutOff : ℕ → Machine → Machine
+cellCutOff id m = cpusChanged (cellAt m id .cpus) stopCpu (withComm id (withState failed (commAt m id)) m)
 
 -- ---- Destroy, Disable
 

@@ -13,7 +13,7 @@ use Rattle.machine_state.specs.declared.Event.the-variants.{Call, Store, Fault,
 use Rattle.machine_state.specs.declared.Answer.{Answer}
 use Rattle.machine_state.specs.declared.Answer.the-variants.{Code, Wait, Done, Off, Bad, Stopped, Held, Denied, Idle}
 use Rattle.machine_state.specs.declared.Machine.{Machine}
-use Rattle.rules.specs.State.{commAt, cpuAt, stateAt, cellIds, live}
+use Rattle.rules.specs.State.{commAt, cpuAt, stateAt, limitAt, cellIds, live}
 use Rattle.rules.specs.Calls.{hypervisorDisable, cellCreate, cellStart, cellSetLoadable}
 use Rattle.rules.specs.Account.{Shown, Account, stays, begun, polled, waitedAt}
 
@@ -22,7 +22,7 @@ unfoldable pub shownFrom : Machine → List ℕ → List Shown
 shownFrom m [] = []
 shownFrom m (id ∷ ids) =
     elim (live m id) [
-      | true ↦ record { id = id; passive = commAt m id .passive; state = stateAt m id } ∷ shownFrom m ids
+      | true ↦ record { id = id; passive = commAt m id .passive; limit = limitAt m id; state = stateAt m id } ∷ shownFrom m ids
       | false ↦ shownFrom m ids
     ]
 

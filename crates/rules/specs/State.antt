@@ -28,7 +28,7 @@ rootId = 0
 abbrev pub bootCpus : Machine → ℕ
 bootCpus m = m .system .cpus
 
--- cell `id`, its communication words and its state word; CPU `cpu`
+-- cell `id`, its communication words, its state word and its reply limit; CPU `cpu`
 abbrev pub cellAt : Machine → ℕ → Cell
 cellAt m id = cellIn (m .cells) id
 
@@ -37,6 +37,9 @@ commAt m id = commIn (m .comms) id
 
 abbrev pub stateAt : Machine → ℕ → ℕ
 stateAt m id = commAt m id .«cell_state»
+
+abbrev pub limitAt : Machine → ℕ → ℕ
+limitAt m id = commAt m id .«reply_limit»
 
 abbrev pub cpuAt : Machine → ℕ → Cpu
 cpuAt m cpu = cpuIn (m .cpus) cpu

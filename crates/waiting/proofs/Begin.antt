@@ -1,11 +1,12 @@
 -- The call itself: one that is left waiting is root's and goes as its account begins, on the machine with its caller counted, which shows the
 -- same cells. The machine that it leaves follows the account. Assumes nothing.
-use mathlib.Core.Bool.{Bool, true, false, not, false≢true}
+use mathlib.Core.Bool.{Bool, true, false, not, true≢false, false≢true}
 use mathlib.Core.Path.{_≡_, refl, sym, ap, _∙_, subst}
 use mathlib.Core.List.{List, [], _∷_}
 use Prim.Native.Nat.{ℕ}
 use borrow.Author.Tests.{eqb-true, not-false}
 use lib.Dec.{eqb}
+use lib.ListN.{length-set}
 use Rattle.cell_record.specs.declared.CellConfig.{CellConfig}
 use Rattle.cell_record.specs.CellRecord.{cellOf}
 use Rattle.machine_state.specs.declared.CallKind.{CallKind}
@@ -14,7 +15,7 @@ use Rattle.machine_state.specs.declared.Event.the-variants.{Call}
 use Rattle.machine_state.specs.declared.Answer.{Answer}
 use Rattle.machine_state.specs.declared.Machine.{Machine}
 use Rattle.machine_state.specs.declared.Stepped.{Stepped}
-use Rattle.rules.specs.State.{cellIds, cpuAt, commAt, stateAt, live, withCpus, withWaiting, answered}
+use Rattle.rules.specs.State.{cellIds, cpuAt, commAt, stateAt, limitAt, live, withCpus, withWaiting, answered}
 use Rattle.rules.specs.Unobeyed.{isOn, unobeyed}
 use Rattle.rules.specs.Effects.{counted, callCounter}
 use Rattle.rules.specs.Calls.{call}
@@ -26,13 +27,13 @@ use Rattle.rules.proofs.Cases.{step-cases}
 use Rattle.rules.specs.Answers.{isWait}
 use Rattle.waiting.specs.Steps.{CallLine, callLine, account, atCall, countedFor, moveOf}
 use Rattle.waiting.specs.Demand3.{LeftWaiting}
-use Rattle.waiting.proofs.Machines.{AllWords, NoneWoken}
+use Rattle.waiting.proofs.Machines.{AllWords, AllCpus, NoneWoken}
 use Rattle.waiting.proofs.Moves.{waitingOf, stepFor, AtPlace}
 use Rattle.waiting.proofs.Calls.{other-ends, Began, call-left}
 use Rattle.waiting.proofs.Kept.{kept-counted, owner-same}
 use Rattle.waiting.proofs.Others.{word-quiet, rows, no-row}
 use Rattle.waiting.proofs.Went.{Went, askAhead, ask-went}
-use Rattle.waiting.proofs.Follows.{Follows, moved-follows, has-reply}
+use Rattle.waiting.proofs.Follows.{Arrives, arrives-before, moved-follows, has-reply}
 use Rattle.waiting.proofs.Own.{OwnStep, own-step, cleared}
 
 -- ---- an obeyed call
@@ -69,7 +70,7 @@ unfolding shownFrom counted withCpus
 shown-counted own cpu m [] = refl
 shown-counted own cpu m (id ∷ ids) =
     ap (λ (rest : List Shown). elim (live m id) [
-      | true ↦ record { id = id; passive = commAt m id .passive; state = stateAt m id } ∷ rest
+      | true ↦ record { id = id; passive = commAt m id .passive; limit = limitAt m id; state = stateAt m id } ∷ rest
       | false ↦ rest
     ]) (shown-counted own cpu m ids)
 
@@ -79,7 +80,7 @@ wait-goes-on (Asks c) t = refl
 wait-goes-on (Tells c) t = refl
 wait-goes-on (Ended code) t = absurd (false≢true t)
 
-module _ (c : CallLine) (m : Machine) (h : AllWords m) (t : LeftWaiting step c m) where
+module _ (c : CallLine) (m : Machine) (h : AllWords m) (p : AllCpus m) (t : LeftWaiting step c m) where
   -- the machine with the caller counted
   abbrev pub n : Machine
   n = counted callCounter (c .cpu) m
@@ -107,6 +108,10 @@ module _ (c : CallLine) (m : Machine) (h : AllWords m) (t : LeftWaiting step c m
   pub n-words : AllWords n
   unfolding counted withCpus
   n-words = h
+
+  n-cpus : AllCpus n
+  unfolding counted withCpus
+  n-cpus = length-set (m .cpus) (c .cpu) _ ∙ p
 
   began : Began kind (targetOf kind (c .a1)) new n (call (c .cpu) (c .code) (c .a1) (c .a2) (c .bytes) n)
   began = call-left (c .cpu) (c .code) (c .a1) (c .a2) (c .bytes) n n-words called-wait
@@ -150,31 +155,30 @@ module _ (c : CallLine) (m : Machine) (h : AllWords m) (t : LeftWaiting step c m
 
   -- ---- the machine that it leaves
 
-  leaves : Follows (withWaiting (waitingOf a) (moveOf a new n)) (record { account = a; reply = 0 }) × NoneWoken n (withWaiting (waitingOf a) (moveOf a new n))
-  unfolding counted withCpus
-  leaves =
-      subst (λ (x : Account). Follows (withWaiting (waitingOf x) (moveOf x new n)) (record { account = x; reply = 0 }) × NoneWoken n (withWaiting (waitingOf x) (moveOf x new n)))
-      (sym (went .same))
-      (moved-follows kind about (askAhead kind about 0) new n n-words (obeyed-call .on) (began .small) (went .effect) (went .place) (went .fit)
-      (ap (λ (x : Account). endedAt (x .place)) (sym (went .same)) ∙ goes-on))
-
-  pub call-follows : Follows (atCall step c m .machine) (atCall step c m .watch)
-  unfolding atCall watchedCall stepFor answered
-  call-follows = subst (λ (x : Stepped). Follows (x .machine) (record { account = a; reply = 0 })) (sym call-moves) (leaves .0)
-
-  pub call-woken : NoneWoken m (atCall step c m .machine)
-  unfolding atCall stepFor answered NoneWoken
-  call-woken id e =
-      kept-counted callCounter (c .cpu) m .woken id (subst (λ (x : Stepped). NoneWoken n (x .machine)) (sym call-moves) (leaves .1) id e)
-
   pub n-woken : NoneWoken m n
   n-woken = kept-counted callCounter (c .cpu) m .woken
+
+  abbrev leaving : Account → Machine
+  leaving x = withWaiting (waitingOf x) (moveOf x new n)
+
+  leaves : Arrives n (leaving a) (record { account = a; reply = 0 })
+  unfolding counted withCpus
+  leaves =
+      subst (λ (x : Account). Arrives n (leaving x) (record { account = x; reply = 0 })) (sym (went .same))
+      (moved-follows kind about (askAhead kind about 0) new n n-words n-cpus (obeyed-call .on) (began .small) (went .effect) (went .place) (went .fit)
+      (ap (λ (x : Account). endedAt (x .place)) (sym (went .same)) ∙ goes-on))
+
+  pub call-arrives : Arrives m (atCall step c m .machine) (atCall step c m .watch)
+  unfolding atCall watchedCall stepFor answered
+  call-arrives =
+      arrives-before m n _ _ n-woken (subst (λ (x : Stepped). Arrives n (x .machine) (record { account = a; reply = 0 })) (sym call-moves) leaves)
 
   pub call-own : OwnStep c (happens step (callLine c) m) a
   unfolding countedFor atCall watchedCall
   call-own =
-      own-step c (callLine c) m a call-moves (kept-counted callCounter (c .cpu) m .table)
+      own-step c (callLine c) m a call-moves n-words n-cpus (kept-counted callCounter (c .cpu) m .table)
+      (λ e. absurd (true≢false (sym (ap (λ (x : Account). x .moved) (went .same)) ∙ e)))
       (cleared a (s .machine) (λ e g. has-reply (s .machine) (a .target) (a .place) 0 place))
     where
       place : AtPlace (s .machine) (a .target) (a .place) 0
-      place = call-follows .place
+      place = call-arrives .follows .place

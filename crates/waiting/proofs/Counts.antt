@@ -1,12 +1,13 @@
--- Counting the numbers below n that a test picks: a test that picks fewer counts less, one that never picks 0 counts at most n - 1. By induction
--- on n. Assumes nothing.
+-- Counting the numbers below n that a test picks, and summing what each is worth: a test that picks fewer sums to less, by all that one which it leaves
+-- out is worth; a test that never picks 0 counts at most n - 1. By induction on n. Assumes nothing.
 use mathlib.Core.Bool.{Bool, true, false, false≢true}
-use mathlib.Core.Path.{_≡_, refl, sym, ap, _∙_}
+use mathlib.Core.Path.{_≡_, refl, sym, ap, _∙_, subst}
 use Prim.Native.Nat.{ℕ, zero, suc, _+_, _*_, _≤_, _<_}
-use native.Mathlib.Nat.{not-suc-le-zero, mul-le-mul-right, suc-mul}
+use native.Mathlib.Nat.{not-suc-le-zero, zero-mul, suc-mul}
 use native.Mathlib.Decide.{ℕ-discrete}
 use native.Mathlib.Omega.{arith}
 use Rattle.cpu_set.specs.CpuSet.{countBelow}
+use Rattle.waiting.specs.Demand3.{sumBelow}
 
 picked : Bool → ℕ
 picked b = elim b [ true ↦ 1 | false ↦ 0 ]
@@ -29,26 +30,48 @@ picked-le false b f = go b
     go true = omega arith
     go false = omega arith
 
-picked-less : (a b : Bool) → a ≡ false → b ≡ true → suc (picked a) ≤ picked b
-unfolding picked
-picked-less a b e f = rw (e, f) (omega arith)
+-- what the picked ones are worth
+abbrev pub worth : (ℕ → Bool) → (ℕ → ℕ) → ℕ → ℕ
+worth p f k = elim (p k) [ true ↦ f k | false ↦ 0 ]
 
-pub count-le : (n : ℕ) (p q : ℕ → Bool) → ((k : ℕ) → p k ≡ true → q k ≡ true) → countBelow n p ≤ countBelow n q
-unfolding countBelow
-count-le zero p q f = omega arith
-count-le (suc n) p q f = omega (arith, count-suc n p, count-suc n q, count-le n p q f, picked-le (p n) (q n) (f n))
+worth-le : (a b : Bool) (w : ℕ) → (a ≡ true → b ≡ true) → _≤_ (elim a [ true ↦ w | false ↦ 0 ]) (elim b [ true ↦ w | false ↦ 0 ])
+worth-le true true w f = omega arith
+worth-le true false w f = absurd (false≢true (f refl))
+worth-le false true w f = omega arith
+worth-le false false w f = omega arith
+
+worth-less : (a b : Bool) (w : ℕ) → a ≡ false → b ≡ true → w + elim a [ true ↦ w | false ↦ 0 ] ≤ elim b [ true ↦ w | false ↦ 0 ]
+worth-less a b w e g = rw (e, g) (omega arith)
+
+pub sum-le : (n : ℕ) (p q : ℕ → Bool) (f : ℕ → ℕ) → ((k : ℕ) → p k ≡ true → q k ≡ true) → sumBelow n (worth p f) ≤ sumBelow n (worth q f)
+unfolding sumBelow
+sum-le zero p q f h = omega arith
+sum-le (suc n) p q f h = omega (arith, sum-le n p q f h, worth-le (p n) (q n) (f n) (h n))
 
 -- one that q picks and p does not
-pub count-less : (n : ℕ) (p q : ℕ → Bool) (c : ℕ) → ((k : ℕ) → p k ≡ true → q k ≡ true) → c < n → q c ≡ true → p c ≡ false → suc (countBelow n p) ≤ countBelow n q
-count-less zero p q c f h e g = absurd (not-suc-le-zero h)
-count-less (suc n) p q c f h e g = go (ℕ-discrete c n) (λ l. count-less n p q c f l e g)
+pub sum-less : (n : ℕ) (p q : ℕ → Bool) (f : ℕ → ℕ) (c : ℕ) → ((k : ℕ) → p k ≡ true → q k ≡ true) → c < n → q c ≡ true → p c ≡ false
+    → f c + sumBelow n (worth p f) ≤ sumBelow n (worth q f)
+unfolding sumBelow
+sum-less zero p q f c h l e g = absurd (not-suc-le-zero l)
+sum-less (suc n) p q f c h l e g = go (ℕ-discrete c n) (λ k. sum-less n p q f c h k e g)
   where
-    here : c ≡ n → suc (picked (p n)) ≤ picked (q n)
-    here i = picked-less (p n) (q n) (ap p (sym i) ∙ g) (ap q (sym i) ∙ e)
+    here : c ≡ n → f c + worth p f n ≤ worth q f n
+    here i = subst (λ (k : ℕ). f c + worth p f k ≤ worth q f k) i (worth-less (p c) (q c) (f c) g e)
 
-    go : Dec (c ≡ n) → (c < n → suc (countBelow n p) ≤ countBelow n q) → suc (countBelow (suc n) p) ≤ countBelow (suc n) q
-    go (yes i) r = omega (arith, count-suc n p, count-suc n q, count-le n p q f, here i)
-    go (no i) r = let l : c < n = omega arith in omega (arith, count-suc n p, count-suc n q, r l, picked-le (p n) (q n) (f n))
+    go : Dec (c ≡ n) → (c < n → f c + sumBelow n (worth p f) ≤ sumBelow n (worth q f))
+        → f c + (sumBelow n (worth p f) + worth p f n) ≤ sumBelow n (worth q f) + worth q f n
+    go (yes i) r = omega (arith, sum-le n p q f h, here i)
+    go (no i) r = let l′ : c < n = omega arith in omega (arith, r l′, worth-le (p n) (q n) (f n) (h n))
+
+-- all worth the same
+pub sum-same : (n : ℕ) (p : ℕ → Bool) (k : ℕ) → sumBelow n (worth p (λ _. k)) ≡ countBelow n p * k
+unfolding sumBelow countBelow
+sum-same zero p k = sym (zero-mul k)
+sum-same (suc n) p k = ap (λ (x : ℕ). x + worth p (λ _. k) n) (sum-same n p k) ∙ go (p n)
+  where
+    go : (b : Bool) → countBelow n p * k + elim b [ true ↦ k | false ↦ 0 ] ≡ elim b [ true ↦ suc (countBelow n p) | false ↦ countBelow n p ] * k
+    go true = sym (suc-mul (countBelow n p) k ∙ omega arith)
+    go false = omega arith
 
 pub count-small : (n : ℕ) (p : ℕ → Bool) → p 0 ≡ false → countBelow (suc n) p ≤ n
 unfolding countBelow picked
@@ -57,6 +80,3 @@ count-small (suc n) p e = omega (arith, count-suc (suc n) p, count-small n p e, 
   where
     one : picked true ≡ 1
     one = refl
-
-pub times-more : (r s k : ℕ) → suc r ≤ s → k + r * k ≤ s * k
-times-more r s k h = omega (arith, mul-le-mul-right k h, suc-mul r k)

@@ -14,6 +14,7 @@ pub mod Progress
 pub mod Messages
 pub mod Counts
 pub mod Bound
+pub mod Premises
 pub mod Demand3
 pub mod Box
 pub mod Sharp

@@ -1,5 +1,5 @@
 -- What a part of the machine is after another has changed: a cell's words after a message, and which cells may be messaged after Create's and
--- Destroy's effects, which no effect makes more. Assumes nothing.
+-- Destroy's effects, which no effect makes more, and after a cell was cut off; those that may keep their limits. Assumes nothing.
 use mathlib.Core.Bool.{Bool, true, false, not, _&&_, _||_, and-false, true≢false, false≢true}
 use mathlib.Core.Path.{_≡_, refl, sym, ap, ap₂, _∙_, subst}
 use mathlib.Core.Logic.{_⊎_, inl, inr}
@@ -11,14 +11,15 @@ use lib.Dec.{eqb}
 use lib.ListN.{length, getD, set, length-set}
 use lib.Seq.{getD-set-same, getD-set-other, set-out}
 use Rattle.base.proofs.Tests.{le-or-lt}
+use Rattle.base.proofs.Lists.{length-upTo}
 use Rattle.cell_record.specs.declared.CellConfig.{CellConfig}
 use Rattle.machine_state.specs.declared.CommRegion.{CommRegion}
 use Rattle.machine_state.specs.declared.CallKind.{CallKind}
 use Rattle.machine_state.specs.declared.CallKind.the-variants.{Disable, Create, Start, SetLoadable, Destroy}
 use Rattle.machine_state.specs.declared.Machine.{Machine}
 use Rattle.machine_state.specs.Machine.{pastComm, noComm}
-use Rattle.rules.specs.State.{cellAt, commAt, cpuAt, stateAt, failed, withCpu, hasId, live, active, isFinal, withComm, withPool, withIds, withRootCpus, withCpus, withCell}
-use Rattle.rules.specs.Effects.{failCpu, withState, allFailed, cellFailed, faulted, cellCreated, cellDestroyed, cpusChanged, newComm, effect, dropId}
+use Rattle.rules.specs.State.{cellAt, commAt, cpuAt, stateAt, limitAt, failed, withCpu, hasId, live, active, isFinal, withComm, withPool, withIds, withRootCpus, withCpus, withCell}
+use Rattle.rules.specs.Effects.{failCpu, withState, allFailed, cellFailed, faulted, cellCreated, cellDestroyed, cellCutOff, changeCpus, cpusChanged, newComm, effect, dropId}
 use Rattle.rules.specs.Asking.{mayBeMessaged, tells}
 use Rattle.rules.specs.Account.{remains}
 use Rattle.rules.proofs.Ids.{by-test, has-added, has-dropped}
@@ -26,6 +27,10 @@ use Rattle.rules.proofs.Ids.{by-test, has-added, has-dropped}
 -- every cell has its words
 abbrev pub AllWords : Machine → Type 0
 AllWords m = length (m .comms) ≡ 16
+
+-- and there are all CPUs
+abbrev pub AllCpus : Machine → Type 0
+AllCpus m = length (m .cpus) ≡ 64
 
 -- ---- two tests at once
 
@@ -86,10 +91,18 @@ changed-may t m n id f g = go (ℕ-discrete id t)
     go (no q) =
         rw (ne-eqb id t q) (may-by n id ∙ ap₂ (λ (b : Bool) (c : CommRegion). mayBy id b c) (g q .0) (g q .1) ∙ sym (may-by m id))
 
--- ---- no cell wakes: those that may be messaged after a change of words might be before it
+-- ---- no cell wakes: those that may be messaged after a change might be before it, and have the same limit
 
 unfoldable pub NoneWoken : Machine → Machine → Type 0
-NoneWoken m n = (id : ℕ) → mayBeMessaged n id ≡ true → mayBeMessaged m id ≡ true
+NoneWoken m n = (id : ℕ) → mayBeMessaged n id ≡ true → (mayBeMessaged m id ≡ true) × (limitAt n id ≡ limitAt m id)
+
+pub woken-same : (m : Machine) → NoneWoken m m
+unfolding NoneWoken
+woken-same m id t = (t, refl)
+
+pub woken-trans : (m n o : Machine) → NoneWoken m n → NoneWoken n o → NoneWoken m o
+unfolding NoneWoken
+woken-trans m n o f g id t = let back = g id t in (f id (back .0) .0, back .1 ∙ f id (back .0) .1)
 
 may-back : (id : ℕ) (alive : Bool) (c d : CommRegion) → d .passive ≡ c .passive → (isFinal (d .«cell_state») ≡ false → isFinal (c .«cell_state») ≡ false)
     → mayBy id alive d ≡ true → mayBy id alive c ≡ true
@@ -114,17 +127,30 @@ by-words P m k id c p q = go (ℕ-discrete id k) (le-or-lt (length (m .comms)) k
     go (yes e) (inr h) =
         subst (λ (n : ℕ). P (getD (set (m .comms) k c) n pastComm)) (sym e) (subst P (sym (getD-set-same (m .comms) k c pastComm h)) (p e))
 
-pub words-woken : (m : Machine) (k : ℕ) (c : CommRegion) → c .passive ≡ commAt m k .passive
+pub words-woken : (m : Machine) (k : ℕ) (c : CommRegion) → c .passive ≡ commAt m k .passive → c .«reply_limit» ≡ limitAt m k
     → (isFinal (c .«cell_state») ≡ false → isFinal (stateAt m k) ≡ false) → NoneWoken m (withComm k c m)
 unfolding NoneWoken withComm
-words-woken m k c p f id t =
-    may-by m id
-    ∙ by-words Back m k id c
-    (λ e. may-back id (live m id) (commAt m id) c (p ∙ ap (λ (n : ℕ). commAt m n .passive) (sym e)) (λ x. ap (λ (n : ℕ). isFinal (stateAt m n)) e ∙ f x))
-    (λ x. x) (sym (may-by (withComm k c m) id) ∙ t)
+words-woken m k c p l f id t =
+    by-words Back m k id c
+    (λ e g. (
+      may-by m id
+          ∙ may-back id (live m id) (commAt m id) c (p ∙ ap (λ (n : ℕ). commAt m n .passive) (sym e)) (λ x. ap (λ (n : ℕ). isFinal (stateAt m n)) e ∙ f x) g,
+      l ∙ ap (limitAt m) (sym e),
+    ))
+    (λ g. (may-by m id ∙ g, refl)) (sym (may-by (withComm k c m) id) ∙ t)
   where
     Back : CommRegion → Type 0
-    Back d = mayBy id (live m id) d ≡ true → mayBy id (live m id) (commAt m id) ≡ true
+    Back d = mayBy id (live m id) d ≡ true → (mayBeMessaged m id ≡ true) × (d .«reply_limit» ≡ limitAt m id)
+
+-- ---- a cell cut off
+
+pub cut-all-words : (c : ℕ) (m : Machine) → AllWords m → AllWords (cellCutOff c m)
+unfolding cellCutOff cpusChanged withCpus
+cut-all-words c m h = all-words-with m c _ h
+
+pub cut-woken : (c : ℕ) (m : Machine) → NoneWoken m (cellCutOff c m)
+unfolding cellCutOff cpusChanged withCpus NoneWoken mayBeMessaged active
+cut-woken c m = words-woken m c (withState failed (commAt m c)) refl refl (λ e. absurd (true≢false e))
 
 created-may : (t : ℕ) (new : CellConfig) (m : Machine) (id : ℕ) → AllWords m → t < 16
     → mayBeMessaged (cellCreated t new m) id ≡ (remains t id && mayBeMessaged m id)
@@ -164,6 +190,24 @@ effect-all-words Create t new m h e = length-set (m .comms) t (newComm new) ∙ 
 effect-all-words Start t new m h e = absurd (false≢true e)
 effect-all-words SetLoadable t new m h e = absurd (false≢true e)
 effect-all-words Destroy t new m h e = length-set (m .comms) t noComm ∙ h
+
+-- no cell but its target has other words
+pub effect-other : (kind : CallKind) (t : ℕ) (new : CellConfig) (m : Machine) (id : ℕ) → tells kind ≡ true → (id ≡ t → ⊥)
+    → commAt (effect kind t new m) id ≡ commAt m id
+unfolding effect tells cellCreated cellDestroyed cpusChanged withPool withIds withRootCpus withCpus withCell withComm
+effect-other Disable t new m id e q = absurd (false≢true e)
+effect-other Create t new m id e q = getD-set-other (m .comms) t id (newComm new) pastComm q
+effect-other Start t new m id e q = absurd (false≢true e)
+effect-other SetLoadable t new m id e q = absurd (false≢true e)
+effect-other Destroy t new m id e q = getD-set-other (m .comms) t id noComm pastComm q
+
+pub effect-all-cpus : (kind : CallKind) (t : ℕ) (new : CellConfig) (m : Machine) → tells kind ≡ true → AllCpus (effect kind t new m)
+unfolding effect tells cellCreated cellDestroyed cpusChanged changeCpus withPool withIds withRootCpus withCpus withCell withComm
+effect-all-cpus Disable t new m e = absurd (false≢true e)
+effect-all-cpus Create t new m e = length-upTo _ 64
+effect-all-cpus Start t new m e = absurd (false≢true e)
+effect-all-cpus SetLoadable t new m e = absurd (false≢true e)
+effect-all-cpus Destroy t new m e = length-upTo _ 64
 
 -- ---- a fault marks the CPU failed, and may make its cell's state 3 where it is not final
 

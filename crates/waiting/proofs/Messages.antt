@@ -13,15 +13,16 @@ use Rattle.machine_state.specs.declared.CallKind.the-variants.{Disable, Create,
 use Rattle.machine_state.specs.declared.Machine.{Machine}
 use Rattle.rules.specs.Step.{step}
 use Rattle.rules.specs.Asking.{mayBeMessaged, asks, tells}
-use Rattle.rules.specs.Account.{Account, Place, Asks, Tells, Ended, stays, remains, endedAt, waitedAt}
+use Rattle.rules.specs.Account.{Account, Place, Asks, Tells, Ended, movesTo, cutting, stays, staysWith, remains, endedAt, waitedAt}
 use Rattle.rules.specs.Run.{Line, isPoll}
-use Rattle.waiting.specs.Steps.{Moment, account, accountEnded, next, shows, cellOfPlace, messagedWith, messagedIn}
+use Rattle.waiting.specs.Steps.{Moment, account, accountEnded, next, cutFrom, cellOfPlace, messagedWith, messagedIn}
 use Rattle.waiting.specs.Demand3.{timesDue, inW}
 use Rattle.waiting.proofs.Machines.{NoneWoken, and-fst, and-snd}
-use Rattle.waiting.proofs.Went.{Went, Fit, askAhead, tellAhead, toCome}
+use Rattle.waiting.proofs.Kept.{cut-none-woken}
+use Rattle.waiting.proofs.Went.{Went, Heard, Fit, askAhead, tellAhead, toCome}
 use Rattle.waiting.proofs.Own.{follows-waits}
 use Rattle.waiting.proofs.Runs.{Along, next-along, ended-stays, ended-next}
-use Rattle.waiting.proofs.Progress.{Progress, passed, unheard, heard, progress}
+use Rattle.waiting.proofs.Progress.{hears, countAt, Progress, passed, unheard, heard, progress}
 
 -- ---- a message
 
@@ -90,6 +91,29 @@ module _ (m : Machine) (kind : CallKind) (target : ℕ) (before : ℕ → Bool) 
       goes-on : endedAt (g .place) ≡ false
       goes-on = ap (λ (x : Account). endedAt (x .place)) (sym (g .same)) ∙ e
 
+-- the same of a cell that was heard, on the machine before it
+module _ (m : Machine) (kind : CallKind) (target : ℕ) (before : ℕ → Bool) (times : ℕ) (b : Account) (g : Heard m kind target before times b) where
+  heard-none : endedAt (b .place) ≡ true → messagedWith b ≡ []
+  unfolding messagedWith
+  heard-none e = ap messagedWith (g .same) ∙ went-none _ kind target before times (g .bare) (g .went) (ap (λ (x : Account). endedAt (x .place)) (sym (g .same)) ∙ e)
+
+  heard-sent : endedAt (b .place) ≡ false → (messagedWith b ≡ waitedAt (b .place) ∷ []) × Sent m kind target before (b .place)
+  unfolding messagedWith NoneWoken
+  heard-sent e =
+      subst (λ (x : Account). (messagedWith x ≡ waitedAt (x .place) ∷ []) × Sent m kind target before (x .place)) (sym (g .same)) (
+        bare .0,
+        record {
+          told = bare .1 .told;
+          may = cut-none-woken (g .cut) m (waitedAt (g .bare .place)) (bare .1 .may) .0;
+          came = bare .1 .came;
+          out = bare .1 .out;
+          rest = bare .1 .rest;
+        },
+      )
+    where
+      bare : (messagedWith (g .bare) ≡ waitedAt (g .bare .place) ∷ []) × Sent (cutFrom (g .cut) m) kind target before (g .bare .place)
+      bare = went-sent _ kind target before times (g .bare) (g .went) (ap (λ (x : Account). endedAt (x .place)) (sym (g .same)) ∙ e)
+
 -- ---- lists of cells
 
 all-mono : (p q : ℕ → Bool) → ((id : ℕ) → p id ≡ true → q id ≡ true) → (ids : List ℕ) → all p ids ≡ true → all q ids ≡ true
@@ -115,19 +139,21 @@ module _ (a : Account) (met : Machine) where
     pub kind : account now .kind ≡ a .kind
     pub target : account now .target ≡ a .target
 
-  -- what an event does: nothing, or, at a poll at which the cell waited for shows a reply or a final state, a move to a place
+  -- what an event does: nothing, or, at a poll at which the cell waited for is heard, a move to a place
   pub data Does (now : Moment) (l : Line) : Type 0 where
     nothing : isPoll (l .event) ≡ false → account (next step l now) ≡ stays (account now) → InCall (next step l now) → Does now l
-    polls : isPoll (l .event) ≡ true → shows now ≡ false → account (next step l now) ≡ stays (account now) → InCall (next step l now) → Does now l
-    ends : isPoll (l .event) ≡ true → shows now ≡ true → messagedWith (account (next step l now)) ≡ [] → accountEnded (next step l now) ≡ true → Does now l
+    polls :
+        isPoll (l .event) ≡ true → hears now ≡ false → account (next step l now) ≡ staysWith (countAt now) (account now) → InCall (next step l now)
+        → Does now l
+    ends : isPoll (l .event) ≡ true → hears now ≡ true → messagedWith (account (next step l now)) ≡ [] → accountEnded (next step l now) ≡ true → Does now l
     moves :
-        isPoll (l .event) ≡ true → shows now ≡ true → InCall (next step l now)
-        → messagedWith (account (next step l now)) ≡ waitedAt (account (next step l now) .place) ∷ []
+        isPoll (l .event) ≡ true → hears now ≡ true → InCall (next step l now)
+        → account (next step l now) .polls ≡ 0 → messagedWith (account (next step l now)) ≡ waitedAt (account (next step l now) .place) ∷ []
         → Sent (now .machine) (a .kind) (a .target) (toCome (a .kind) (a .target) (account now .place)) (account (next step l now) .place)
         → Does now l
 
-  still : (now : Moment) (l : Line) → InCall now → account (next step l now) ≡ stays (account now) → InCall (next step l now)
-  still now l c e = record {
+  still : (now : Moment) (l : Line) (count : ℕ) → InCall now → account (next step l now) ≡ staysWith count (account now) → InCall (next step l now)
+  still now l count c e = record {
     along = next-along met l now (c .along) (ap (λ (x : Account). endedAt (x .place)) e ∙ follows-waits (now .machine) (now .watch) (c .along .follows) .1);
     kind = ap (λ (x : Account). x .kind) e ∙ c .kind;
     target = ap (λ (x : Account). x .target) e ∙ c .target;
@@ -140,34 +166,37 @@ module _ (a : Account) (met : Machine) where
       b = account (next step l now)
 
       go : Progress now l → Does now l
-      go (passed p e) = nothing p e (still now l c e)
-      go (unheard p h e) = polls p h e (still now l c e)
+      go (passed p e) = nothing p e (still now l (account now .polls) c e)
+      go (unheard p h e) = polls p h e (still now l (countAt now) c e)
       go (heard p h g) = by-end (endedAt (b .place)) refl
         where
           place : Place
           place = account now .place
 
           -- of the call that began
-          same : Went (now .machine) (a .kind) (a .target) (toCome (a .kind) (a .target) place) (timesDue place) b
+          same : Heard (now .machine) (a .kind) (a .target) (toCome (a .kind) (a .target) place) (timesDue place) b
           same =
-              subst (λ (t : ℕ). Went (now .machine) (a .kind) t (toCome (a .kind) t place) (timesDue place) b) (c .target)
-              (subst (λ (k : CallKind). Went (now .machine) k (account now .target) (toCome k (account now .target) place) (timesDue place) b) (c .kind) g)
+              subst (λ (t : ℕ). Heard (now .machine) (a .kind) t (toCome (a .kind) t place) (timesDue place) b) (c .target)
+              (subst (λ (k : CallKind). Heard (now .machine) k (account now .target) (toCome k (account now .target) place) (timesDue place) b) (c .kind) g)
+
+          moved : b ≡ cutting (same .cut) (movesTo (a .kind) (a .target) (same .went .effect) (same .went .place))
+          moved = same .same ∙ ap (cutting (same .cut)) (same .went .same)
 
           by-end : (t : Bool) → endedAt (b .place) ≡ t → Does now l
-          by-end true e = ends p h (went-none _ _ _ _ _ b same e) e
-          by-end false e = moves p h goes-on (went-sent _ _ _ _ _ b same e .0) (went-sent _ _ _ _ _ b same e .1)
+          by-end true e = ends p h (heard-none _ _ _ _ _ b same e) e
+          by-end false e = moves p h goes-on (ap (λ (x : Account). x .polls) moved) (heard-sent _ _ _ _ _ b same e .0) (heard-sent _ _ _ _ _ b same e .1)
             where
               goes-on : InCall (next step l now)
               goes-on = record {
                 along = next-along met l now (c .along) e;
-                kind = ap (λ (x : Account). x .kind) (same .same);
-                target = ap (λ (x : Account). x .target) (same .same);
+                kind = ap (λ (x : Account). x .kind) moved;
+                target = ap (λ (x : Account). x .target) moved;
               }
 
   pub in-w : (m : Machine) (place : Place) (before : ℕ → Bool) → NoneWoken met m → Sent m (a .kind) (a .target) before place
       → inW a met (waitedAt place) ≡ true
   unfolding inW NoneWoken
-  in-w m place before w s = ap₂ (λ (x y : Bool). x && y) (s .told) (w (waitedAt place) (s .may))
+  in-w m place before w s = ap₂ (λ (x y : Bool). x && y) (s .told) (w (waitedAt place) (s .may) .0)
 
   -- ---- the cells that a list messages
 
@@ -210,13 +239,13 @@ module _ (a : Account) (met : Machine) where
       before : Place
       before = account now .place
 
-      stayed : b ≡ stays (account now) → Listed (b .place) rest → Listed before (messagedWith b ++ rest)
-      stayed e h = subst (λ (x : Account). Listed (x .place) rest → Listed before (messagedWith x ++ rest)) (sym e) (λ i. i) h
+      stayed : (count : ℕ) → b ≡ staysWith count (account now) → Listed (b .place) rest → Listed before (messagedWith b ++ rest)
+      stayed count e h = subst (λ (x : Account). Listed (x .place) rest → Listed before (messagedWith x ++ rest)) (sym e) (λ i. i) h
 
       go : Does now l → (InCall (next step l now) → Listed (b .place) rest) → Listed before (messagedWith b ++ rest)
-      go (nothing p e i) f = stayed e (f i)
-      go (polls p h e i) f = stayed e (f i)
+      go (nothing p e i) f = stayed (account now .polls) e (f i)
+      go (polls p h e i) f = stayed (countAt now) e (f i)
       go (ends p h n e) f =
           subst (λ (cs : List ℕ). Listed before (cs ++ rest)) (sym n)
           (subst (Listed before) (sym (none-when-ended ls (next step l now) e)) (no-cells before))
-      go (moves p h i n s) f = subst (λ (cs : List ℕ). Listed before (cs ++ rest)) (sym n) (one-more (now .machine) before (b .place) rest (c .along .woken) s (f i))
+      go (moves p h i z n s) f = subst (λ (cs : List ℕ). Listed before (cs ++ rest)) (sym n) (one-more (now .machine) before (b .place) rest (c .along .woken) s (f i))

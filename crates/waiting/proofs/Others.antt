@@ -36,7 +36,7 @@ fault-kept : (cpu : ℕ) (m : Machine) → Kept m (faulted cpu m)
 unfolding failCpu storeWord withCpus
 fault-kept cpu m =
     by-fault (Kept m) cpu m marked
-    (λ f. kept-trans m (faultedCpu cpu m) _ marked (kept-words (cpuAt m cpu .cell) (withState failed (commAt m (cpuAt m cpu .cell))) (faultedCpu cpu m) refl (λ t. f)))
+    (λ f. kept-trans m (faultedCpu cpu m) _ marked (kept-words (cpuAt m cpu .cell) (withState failed (commAt m (cpuAt m cpu .cell))) (faultedCpu cpu m) refl refl (λ t. f)))
   where
     marked : Kept m (faultedCpu cpu m)
     marked = kept-cpu cpu (failCpu (cpuAt m cpu)) m refl

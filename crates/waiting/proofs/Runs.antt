@@ -10,22 +10,23 @@ use Rattle.machine_state.specs.declared.Event.{Event}
 use Rattle.machine_state.specs.declared.Event.the-variants.{Call, Store, Fault, Exit, Poll, Malformed}
 use Rattle.machine_state.specs.declared.Answer.{Answer}
 use Rattle.machine_state.specs.declared.Machine.{Machine}
-use Rattle.rules.specs.State.{cpuAt}
+use Rattle.rules.specs.State.{cpuAt, limitAt}
 use Rattle.rules.specs.Step.{step}
 use Rattle.rules.specs.Account.{Account, Place, Asks, Tells, Ended, stays, polledAt, polled, endedAt, waitedAt}
 use Rattle.rules.specs.Observer.{Watched, watchedPoll, watchedOther, watchedStore, watched, shownBy, isDone}
 use Rattle.rules.specs.Run.{Line, happens, isPoll}
 use Rattle.waiting.specs.Steps.{Moment, account, accountEnded, next, momentAfter}
-use Rattle.waiting.proofs.Machines.{NoneWoken}
+use Rattle.waiting.proofs.Machines.{NoneWoken, woken-trans}
 use Rattle.waiting.proofs.Stores.{Other}
 use Rattle.waiting.proofs.Others.{step-other}
-use Rattle.waiting.proofs.Follows.{Follows, other-follows}
+use Rattle.waiting.proofs.Follows.{Follows, Left, other-follows}
 use Rattle.waiting.proofs.Own.{follows-waits, poll-leaves}
 
--- the machine follows the account, and no cell has woken since the machine `met`
+-- the machine follows the account, no cell has woken since the machine `met`, and the cell waited for has the limit that it had there
 pub record Along (met : Machine) (now : Moment) : Type 0 where
   pub follows : Follows (now .machine) (now .watch)
   pub woken : NoneWoken met (now .machine)
+  pub limit : limitAt (now .machine) (waitedAt (account now .place)) ≡ limitAt met (waitedAt (account now .place))
 
 -- ---- one event
 
@@ -61,21 +62,34 @@ momentOf e bytes now = next step (record { event = e; bytes = bytes }) now
 
 module _ (met : Machine) (bytes : List ℕ) (now : Moment) (f : Along met now) where
   poll-along : accountEnded (momentOf Poll bytes now) ≡ false → Along met (momentOf Poll bytes now)
-  unfolding next watched watchedPoll NoneWoken
-  poll-along n = record { follows = left .0; woken = λ id t. f .woken id (left .1 id t) }
+  unfolding next watched watchedPoll
+  poll-along n = record {
+    follows = left .follows;
+    woken = woken-trans met (now .machine) _ (f .woken) (left .woken);
+    limit = left .limit met (f .woken) (f .limit);
+  }
     where
-      left : Follows (step Poll bytes (now .machine) .machine) (watchedPoll (now .watch) (now .machine)) × NoneWoken (now .machine) (step Poll bytes (now .machine) .machine)
+      left : Left (now .machine) (step Poll bytes (now .machine) .machine) (waitedAt (account now .place)) (watchedPoll (now .watch) (now .machine))
       left = poll-leaves (now .machine) (now .watch) (f .follows) bytes n
 
   pub other-at : (e : Event) → isPoll e ≡ false → Other e (now .machine) (step e bytes (now .machine))
   other-at e p = step-other (now .machine) bytes (follows-waits (now .machine) (now .watch) (f .follows) .0) e p
 
   other-along : (e : Event) → isPoll e ≡ false → Along met (momentOf e bytes now)
-  unfolding next NoneWoken
+  unfolding next
   other-along e p = record {
     follows = other-follows e (now .machine) (now .watch) (step e bytes (now .machine)) (f .follows) (other-at e p);
-    woken = λ id t. f .woken id (other-at e p .kept .woken id t);
+    woken = woken-trans met (now .machine) _ (f .woken) (other-at e p .kept .woken);
+    limit =
+        ap (λ (a : Account). limitAt after (waitedAt (a .place))) stays-there ∙ other-at e p .kept .limits (waitedAt (account now .place)) ∙ f .limit
+        ∙ sym (ap (λ (a : Account). limitAt met (waitedAt (a .place))) stays-there);
   }
+    where
+      after : Machine
+      after = step e bytes (now .machine) .machine
+
+      stays-there : account (momentOf e bytes now) ≡ stays (account now)
+      stays-there = other-stays e _ (now .machine) (now .watch) p
 
   event-along : (e : Event) → accountEnded (momentOf e bytes now) ≡ false → Along met (momentOf e bytes now)
   event-along e n = go (isPoll e) refl

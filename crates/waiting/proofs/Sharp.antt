@@ -35,18 +35,21 @@ use Rattle.waiting.specs.Wrong as Wrong
 use Rattle.base.specs.Lists.{all}
 use Rattle.cell_record.specs.CellRecord.{cellOf}
 use Rattle.system_record.specs.SystemRecord.{bootAnswer}
+use Rattle.machine_state.specs.declared.Waiting.{Waiting}
+use Rattle.machine_state.specs.declared.Waiting.the-variants.{NoCall, Pending}
 use Rattle.machine_state.specs.declared.Answer.{Answer}
 use Rattle.machine_state.specs.declared.Answer.the-variants.{Code, Wait, Done, Off, Bad, Stopped, Held, Denied, Idle}
 use Rattle.machine_state.specs.declared.Machine.{Machine}
-use Rattle.rules.specs.State.{commAt}
+use Rattle.rules.specs.State.{commAt, cpuAt, withWaiting}
+use Rattle.rules.specs.Asking.{withPolls}
 use Rattle.rules.specs.Answers.{isWait}
 use Rattle.rules.specs.Account.{Account, answerOf}
 use Rattle.rules.specs.Run.{Line, Manager, Happened, happens, after, Accepted, startOf}
 use Rattle.reading_room.specs.ReadingRoom.{box, logStore}
 use Rattle.waiting.specs.Steps.{CallLine, callLine, pollLine, Moment, account, accountEnded, atCall, next, moveOf, butWaiting, cellTableOf, CellTable, messagedWith}
 use Rattle.waiting.specs.Demand3.{since, WaitingCall, Demand3}
-use Rattle.waiting.specs.Box.{rootCall, bothStarted}
-use Rattle.waiting.specs.Wrong.{effectFirst, endsEarly, staleReply, denialConsents, locksBefore, messagesTwice, changesBack, tellsFirst}
+use Rattle.waiting.specs.Box.{rootCall, bothStarted, hungStarted}
+use Rattle.waiting.specs.Wrong.{effectFirst, endsEarly, staleReply, denialConsents, locksBefore, messagesTwice, changesBack, tellsFirst, neverCutsOff, leavesRunning, losesReply, countsUnlimited}
 
 -- a figure of two things that are said to be equal
 unequal : {A : Type 0} (figure : A → ℕ) (x y : A) → eqb (figure x) (figure y) ≡ false → x ≡ y → ⊥
@@ -76,6 +79,16 @@ to id m = commAt m id .«msg_to_cell»
 
 from : ℕ → Machine → ℕ
 from id m = commAt m id .«reply_from_cell»
+
+isStopped : ℕ → Machine → ℕ
+isStopped cpu m = elim (cpuAt m cpu .stopped) [ true ↦ 1 | false ↦ 0 ]
+
+countIn : Waiting → ℕ
+countIn NoCall = 0
+countIn (Pending kind stage) = stage .polls
+
+count : Machine → ℕ
+count m = countIn (m .waiting)
 
 -- ---- a run that breaks the claim
 
@@ -116,6 +129,14 @@ record WrongMove (figure : Machine → ℕ) (manager : Manager) (before : List L
       eqb (figure (butWaiting (atPoll manager before c later .after)))
       (figure (butWaiting (moveOf (polled manager before c later) (cellOf (c .bytes)) (then manager before c later .machine)))) ≡ false
 
+-- a poll with which the account stays changes more than its count, or counts otherwise
+record WrongCount (manager : Manager) (before : List Line) (c : CallLine) (later : List Line) : Type 0 where
+  waits : Waits manager before c later
+  stays : polled manager before c later .moved ≡ false
+  wrong :
+      let m = then manager before c later .machine in
+      eqb (count (atPoll manager before c later .after)) (count (withWaiting (withPolls (polled manager before c later .polls) (m .waiting)) m)) ≡ false
+
 -- the call changes the table though no effect came; it leaves a reply
 record WrongTable (manager : Manager) (before : List Line) (c : CallLine) : Type 0 where
   waits : Waits manager before c []
@@ -139,6 +160,10 @@ module _ (manager : Manager) (before : List Line) (c : CallLine) where
   no-move : (figure : Machine → ℕ) (later : List Line) → WrongMove figure manager before c later → Demand3 manager → ⊥
   unfolding atPoll polled then met Steps.countedFor
   no-move figure later w claim = unequal figure _ _ (w .wrong) (claimed later (w .waits) claim .effect .0 .1 later [] (w .waits .still))
+
+  no-count : (later : List Line) → WrongCount manager before c later → Demand3 manager → ⊥
+  unfolding atPoll polled then met
+  no-count later w claim = unequal count _ _ (w .wrong) (claimed later (w .waits) claim .counts .1 later [] (w .waits .still) (w .stays))
 
   no-table : WrongTable manager before c → Demand3 manager → ⊥
   unfolding called begun met
@@ -176,9 +201,14 @@ record Runs : Type 0 where
   twice : WrongMove (to 1) messagesTwice bothStarted destroy (logStore 2 0 9 ∷ [])
   back : WrongMove (from 1) changesBack bothStarted disable consent
   tells-first : WrongMove live tellsFirst bothStarted destroy consent
+  -- `search` has a limit of one poll and hangs, or denies at that poll
+  never-cuts-off : WrongAnswer neverCutsOff hungStarted destroy []
+  leaves-running : WrongMove (isStopped 2) leavesRunning hungStarted disable []
+  loses-reply : WrongAnswer losesReply hungStarted destroy denial
+  counts-unlimited : WrongCount countsUnlimited bothStarted destroy []
 
 runs : Runs
-unfolding Lists.all Lists.any Lists.pairwise Lists.from Lists.same Rules.firstRule CpuSet.member CpuSet.numberOf CpuSet.subset CpuSet.meets CpuSet.isEmpty CpuSet.union CpuSet.without CpuSet.below CpuSet.countBelow CpuSet.count Fields.littleEndian Fields.field Fields.zeros Fields.leading Fields.isName Fields.padded Regions.regionOf Regions.noRegion Regions.wholePages Regions.placed Regions.flagsOk Regions.commOk Regions.overlap Regions.inside Regions.overlapVirt Regions.overlapPhys Regions.apart Regions.clearOf Regions.insidePhys Tables.regionAt Tables.regionsOf Tables.tableOf SystemRecord.systemOf SystemRecord.systemForm SystemRecord.bootRegionOk SystemRecord.systemValid SystemRecord.outOfRange SystemRecord.overdrawn SystemRecord.bootAnswer SystemRecord.readSystem CellRecord.cellOf CellRecord.cellForm CellRecord.cellRegionOk CellRecord.cellValid CellRecord.cellAnswer CellRecord.readCell Machine.freshCpu Machine.noComm Machine.noCell Machine.firstMachine Machine.powerAfter Machine.bootOf Room.region Room.box Room.cell Room.search Room.notes Run.after Room.booted State.first State.hasId State.active State.waits State.withWaiting State.withPower State.withPool State.withIds State.withRootCpus State.withCell State.withComm State.withCpus State.answered Unobeyed.isOn Unobeyed.storeDenied Unobeyed.unobeyed Queries.getInfo Queries.getState Queries.cpuGetInfo Create.otherCellLocked Create.invalid Create.nameInUse Create.conflict Create.conflicts Create.regionInUse Create.busy Create.freeId Create.noRoom Effects.bump Effects.countExit Effects.counted Effects.storeWord Effects.stored Effects.failCpu Effects.allFailed Effects.cellFailed Effects.faulted Effects.changeIn Effects.changeCpus Effects.cpusChanged Effects.startCpu Effects.stopCpu Effects.addId Effects.dropId Effects.newCell Effects.newComm Effects.cellCreated Effects.withPhase Effects.inPhase Effects.clearWords Effects.cellStarted Effects.cellLoadable Effects.cellDestroyed Effects.allDestroyed Effects.disabled Effects.effect Asking.mayBeMessaged Asking.nextToMessage Asking.asks Asking.tells Asking.isDestroy Asking.message Asking.waitFor Asking.finished Asking.endCode Asking.tell Asking.carryOut Asking.noneToAsk Asking.ask Asking.isHeard Asking.consents Asking.hear Asking.pollCell Asking.poll Calls.disableCall Calls.createCall Calls.targetCall Calls.callByCode Calls.call Step.obeyed Step.step CommRegion.bytes Answers.isNegative Answers.isWait Account.nextShown Account.unusedId Account.aboutCell Account.lastCode Account.tellOn Account.effectComes Account.lockShown Account.noneLeftToAsk Account.askOn Account.begun Account.stateShown Account.heardBy Account.consentsBy Account.polledAt Account.polled Account.answerAt Account.endedAt Account.waitedAt Observer.shownFrom Observer.kindOfCode Observer.targetOf Observer.watchedCall Observer.watchedPoll Observer.isDone Observer.watchedStore Observer.watched Run.isPoll Steps.atCall Steps.next Steps.momentAfter Steps.cellOfPlace Steps.messagedWith Steps.messagedIn Steps.timesWith Steps.timesIn number liveIn live to from met called begun then atPoll polled destroy disable consent denial Steps.messagedAt Steps.accountEffect Steps.moveOf Steps.cellTableOf Wrong.changed Wrong.leaving Wrong.waitedCell Wrong.effectFirst Wrong.endsEarly Wrong.replyKept Wrong.staleReply Wrong.asksOn Wrong.denialConsents Wrong.carriesOut Wrong.locksBefore Wrong.messagesTwice Wrong.changesBack Wrong.tellsOn Wrong.tellsFirst
+unfolding Lists.all Lists.any Lists.pairwise Lists.from Lists.same Rules.firstRule CpuSet.member CpuSet.numberOf CpuSet.subset CpuSet.meets CpuSet.isEmpty CpuSet.union CpuSet.without CpuSet.below CpuSet.countBelow CpuSet.count Fields.littleEndian Fields.field Fields.zeros Fields.leading Fields.isName Fields.padded Regions.regionOf Regions.noRegion Regions.wholePages Regions.placed Regions.flagsOk Regions.commOk Regions.overlap Regions.inside Regions.overlapVirt Regions.overlapPhys Regions.apart Regions.clearOf Regions.insidePhys Tables.regionAt Tables.regionsOf Tables.tableOf SystemRecord.systemOf SystemRecord.systemForm SystemRecord.bootRegionOk SystemRecord.systemValid SystemRecord.outOfRange SystemRecord.overdrawn SystemRecord.bootAnswer SystemRecord.readSystem CellRecord.cellOf CellRecord.versionOk CellRecord.limitOk CellRecord.cellForm CellRecord.cellRegionOk CellRecord.cellValid CellRecord.cellAnswer CellRecord.readCell Machine.freshCpu Machine.noComm Machine.noCell Machine.firstMachine Machine.powerAfter Machine.bootOf Room.region Room.box Room.cellRecord Room.search Room.limitedSearch Room.notes Run.after Room.booted State.first State.hasId State.active State.waits State.withWaiting State.withPower State.withPool State.withIds State.withRootCpus State.withCell State.withComm State.withCpus State.answered Unobeyed.isOn Unobeyed.storeDenied Unobeyed.unobeyed Queries.getInfo Queries.getState Queries.cpuGetInfo Create.otherCellLocked Create.invalid Create.nameInUse Create.conflict Create.conflicts Create.regionInUse Create.busy Create.freeId Create.noRoom Effects.bump Effects.countExit Effects.counted Effects.storeWord Effects.stored Effects.failCpu Effects.allFailed Effects.cellFailed Effects.faulted Effects.changeIn Effects.changeCpus Effects.cpusChanged Effects.startCpu Effects.stopCpu Effects.addId Effects.dropId Effects.newCell Effects.newComm Effects.cellCreated Effects.withPhase Effects.inPhase Effects.clearWords Effects.cellStarted Effects.cellLoadable Effects.cellCutOff Effects.cellDestroyed Effects.allDestroyed Effects.disabled Effects.effect Asking.mayBeMessaged Asking.nextToMessage Asking.asks Asking.tells Asking.isDestroy Asking.message Asking.waitFor Asking.finished Asking.endCode Asking.tell Asking.carryOut Asking.noneToAsk Asking.ask Asking.isHeard Asking.consents Asking.hear Asking.isLastPoll Asking.pollsAfter Asking.withPolls Asking.cutsOff Asking.hearsAt Asking.heardAt Asking.stillWaits Asking.pollCell Asking.poll Calls.disableCall Calls.createCall Calls.targetCall Calls.callByCode Calls.call Step.obeyed Step.step CommRegion.bytes Answers.isNegative Answers.isWait Account.nextShown Account.unusedId Account.aboutCell Account.lastCode Account.tellOn Account.effectComes Account.lockShown Account.noneLeftToAsk Account.askOn Account.begun Account.cellShown Account.failedShown Account.unheardAt Account.heardBy Account.consentsBy Account.polledAt Account.polled Account.answerAt Account.endedAt Account.waitedAt Observer.shownFrom Observer.kindOfCode Observer.targetOf Observer.watchedCall Observer.watchedPoll Observer.isDone Observer.watchedStore Observer.watched Run.isPoll Steps.atCall Steps.next Steps.momentAfter Steps.cellOfPlace Steps.messagedWith Steps.messagedIn Steps.timesWith Steps.timesIn number liveIn live isStopped countIn count to from met called begun then atPoll polled destroy disable consent denial Steps.messagedAt Steps.accountEffect Steps.cutFrom Steps.moveOf Steps.cellTableOf Wrong.changed Wrong.leaving Wrong.waitedCell Wrong.effectFirst Wrong.endsEarly Wrong.replyKept Wrong.staleReply Wrong.asksOn Wrong.denialConsents Wrong.carriesOut Wrong.locksBefore Wrong.messagesTwice Wrong.changesBack Wrong.tellsOn Wrong.tellsFirst Wrong.waitsOn Wrong.neverCutsOff Wrong.runsOn Wrong.leavesRunning Wrong.cutsAnyway Wrong.losesReply Wrong.countsUnlimited
 runs = record {
   effect-first = record { waits = record { accepted = refl; left = refl; still = refl }; none = refl; wrong = refl };
   ends-early = record { waits = record { accepted = refl; left = refl; still = refl }; wrong = refl };
@@ -189,6 +219,10 @@ runs = record {
   twice = record { waits = record { accepted = refl; left = refl; still = refl }; wrong = refl };
   back = record { waits = record { accepted = refl; left = refl; still = refl }; wrong = refl };
   tells-first = record { waits = record { accepted = refl; left = refl; still = refl }; wrong = refl };
+  never-cuts-off = record { waits = record { accepted = refl; left = refl; still = refl }; wrong = refl };
+  leaves-running = record { waits = record { accepted = refl; left = refl; still = refl }; wrong = refl };
+  loses-reply = record { waits = record { accepted = refl; left = refl; still = refl }; wrong = refl };
+  counts-unlimited = record { waits = record { accepted = refl; left = refl; still = refl }; stays = refl; wrong = refl };
 }
 
 -- ---- what they refute
@@ -227,3 +261,19 @@ changes-back = no-move changesBack bothStarted disable (from 1) consent (runs .b
 -- telling before the effect
 pub tells-first : Demand3 tellsFirst → ⊥
 tells-first = no-move tellsFirst bothStarted destroy live consent (runs .tells-first)
+
+-- a limit that never cuts off
+pub never-cuts-off : Demand3 neverCutsOff → ⊥
+never-cuts-off = no-answer neverCutsOff hungStarted destroy [] (runs .never-cuts-off)
+
+-- the CPUs of a cell that is cut off left running
+pub leaves-running : Demand3 leavesRunning → ⊥
+leaves-running = no-move leavesRunning hungStarted disable (isStopped 2) [] (runs .leaves-running)
+
+-- a reply at the limit's poll lost
+pub loses-reply : Demand3 losesReply → ⊥
+loses-reply = no-answer losesReply hungStarted destroy denial (runs .loses-reply)
+
+-- a count where there is no limit
+pub counts-unlimited : Demand3 countsUnlimited → ⊥
+counts-unlimited = no-count countsUnlimited bothStarted destroy [] (runs .counts-unlimited)

@@ -2,23 +2,28 @@
 -- free ID, a live cell's state. Each follows by going through the IDs in their order. Assumes nothing.
 use mathlib.Core.Bool.{Bool, true, false, not, _&&_, _||_, and-false, and-assoc, true≢false, false≢true}
 use mathlib.Core.Path.{_≡_, refl, sym, ap, ap₂, _∙_}
-use mathlib.Core.List.{List, _∷_}
+use mathlib.Core.List.{List, [], _∷_}
 use Prim.Native.Nat.{ℕ, zero, suc, _+_, _<_, _≤_}
 use native.Mathlib.Decide.{ℕ-discrete}
 use native.Mathlib.Omega.{arith}
 use borrow.Author.Tests.{eq-eqb, ne-eqb, eqb-true, ltb-true}
 use lib.Dec.{ltb, eqb, eqb·suc-zero}
+use lib.ListN.{length, getD, set}
+use lib.Seq.{getD-set-same, getD-set-other}
 use Rattle.base.specs.Lists.{any, from}
 use Rattle.cpu_set.specs.CpuSet.{bit}
+use Rattle.machine_state.specs.declared.CommRegion.{CommRegion}
 use Rattle.machine_state.specs.declared.Machine.{Machine}
-use Rattle.rules.specs.State.{commAt, stateAt, cellIds, first, hasId, live, active, isFinal, isLocked}
+use Rattle.machine_state.specs.Machine.{pastComm}
+use Rattle.rules.specs.State.{commAt, stateAt, limitAt, cellIds, first, hasId, live, active, isFinal, isLocked, failed, withComm, withCpus}
+use Rattle.rules.specs.Effects.{withState, cpusChanged, cellCutOff}
 use Rattle.rules.specs.Create.{otherCellLocked, freeId}
 use Rattle.rules.specs.Asking.{mayBeMessaged, nextToMessage}
-use Rattle.rules.specs.Account.{Shown, messageable, nextShown, unusedId, lockShown, stateShown}
+use Rattle.rules.specs.Account.{Shown, messageable, nextShown, unusedId, lockShown, cellShown, stateShown, limitShown, failedShown}
 use Rattle.rules.specs.Observer.{shownFrom, shownBy}
 
 abbrev shownAt : Machine → ℕ → Shown
-shownAt m id = record { id = id; passive = commAt m id .passive; state = stateAt m id }
+shownAt m id = record { id = id; passive = commAt m id .passive; limit = limitAt m id; state = stateAt m id }
 
 -- a non-root cell is active where it is live and in no final state
 active-shown : (m : Machine) (k : ℕ) → active m (suc k) ≡ (live m (suc k) && not (isFinal (stateAt m (suc k))))
@@ -107,19 +112,19 @@ lock-shown m target = lock-from m target 0 15
 
 -- ---- one cell
 
--- in a list of IDs from k on that reaches past `id`, a live `id` is shown with its state
-state-from : (m : Machine) (id k n : ℕ) → k ≤ id → id < k + n → live m id ≡ true → stateShown id (shownFrom m (from k n)) ≡ stateAt m id
-unfolding stateShown shownFrom from
-state-from m id k zero l h v = absurd (omega arith)
-state-from m id k (suc n) l h v = go (live m k) refl (ℕ-discrete k id) (λ l′. state-from m id (suc k) n l′ (omega arith) v)
+-- in a list of IDs from k on that reaches past `id`, a live `id` is shown as it is
+cell-from : (m : Machine) (id k n : ℕ) → k ≤ id → id < k + n → live m id ≡ true → cellShown id (shownFrom m (from k n)) ≡ shownAt m id
+unfolding cellShown shownFrom from
+cell-from m id k zero l h v = absurd (omega arith)
+cell-from m id k (suc n) l h v = go (live m k) refl (ℕ-discrete k id) (λ l′. cell-from m id (suc k) n l′ (omega arith) v)
   where
     rest : List Shown
     rest = shownFrom m (from (suc k) n)
 
-    go : (b : Bool) → live m k ≡ b → Dec (k ≡ id) → (suc k ≤ id → stateShown id rest ≡ stateAt m id)
-        → stateShown id (elim b [ true ↦ shownAt m k ∷ rest | false ↦ rest ]) ≡ stateAt m id
-    go true e (yes q) f = rw (eq-eqb k id q, stateShown) (ap (stateAt m) q)
-    go true e (no q) f = rw (ne-eqb k id q, stateShown) (f (omega arith))
+    go : (b : Bool) → live m k ≡ b → Dec (k ≡ id) → (suc k ≤ id → cellShown id rest ≡ shownAt m id)
+        → cellShown id (elim b [ true ↦ shownAt m k ∷ rest | false ↦ rest ]) ≡ shownAt m id
+    go true e (yes q) f = rw (eq-eqb k id q, cellShown) (ap (shownAt m) q)
+    go true e (no q) f = rw (ne-eqb k id q, cellShown) (f (omega arith))
     go false e (yes q) f = absurd (false≢true (sym e ∙ ap (live m) q ∙ v))
     go false e (no q) f = f (omega arith)
 
@@ -132,8 +137,51 @@ live-lt m id = go (ltb id 16) refl
     go true e v = ltb-true id 16 e
     go false e v = absurd (false≢true v)
 
+cell-shown : (m : Machine) (id : ℕ) → 1 ≤ id → live m id ≡ true → cellShown id (shownBy m) ≡ shownAt m id
+cell-shown m id l v = cell-from m id 1 15 l (omega (arith, live-lt m id v)) v
+
 pub state-shown : (m : Machine) (id : ℕ) → 1 ≤ id → live m id ≡ true → stateShown id (shownBy m) ≡ stateAt m id
-state-shown m id l v = state-from m id 1 15 l (omega (arith, live-lt m id v)) v
+state-shown m id l v = ap (λ (s : Shown). s .state) (cell-shown m id l v)
+
+pub limit-shown : (m : Machine) (id : ℕ) → 1 ≤ id → live m id ≡ true → limitShown id (shownBy m) ≡ limitAt m id
+limit-shown m id l v = ap (λ (s : Shown). s .limit) (cell-shown m id l v)
+
+-- ---- a cell cut off is shown failed
+
+failed-at : (m : Machine) (c id : ℕ) → c < length (m .comms)
+    → _≡_ {A = Shown}
+    (record { id = id; passive = commAt m id .passive; limit = limitAt m id; state = elim (eqb id c) [ true ↦ failed | false ↦ stateAt m id ] })
+    (shownAt (cellCutOff c m) id)
+unfolding cellCutOff cpusChanged withCpus withComm
+failed-at m c id h = go (ℕ-discrete id c)
+  where
+    words : CommRegion
+    words = withState failed (commAt m c)
+
+    shown : CommRegion → Shown
+    shown w = record { id = id; passive = w .passive; limit = w .«reply_limit»; state = w .«cell_state» }
+
+    go : Dec (id ≡ c)
+        → _≡_ {A = Shown}
+        (record { id = id; passive = commAt m id .passive; limit = limitAt m id; state = elim (eqb id c) [ true ↦ failed | false ↦ stateAt m id ] })
+        (shown (getD (set (m .comms) c words) id pastComm))
+    go (yes q) =
+        rw (eq-eqb id c q) (ap (λ (n : ℕ). shown (withState failed (commAt m n))) q ∙ ap shown (sym (ap (λ (n : ℕ). getD (set (m .comms) c words) n pastComm) q ∙ getD-set-same (m .comms) c words pastComm h)))
+    go (no q) = rw (ne-eqb id c q) (ap shown (sym (getD-set-other (m .comms) c id words pastComm q)))
+
+failed-from : (m : Machine) (c : ℕ) (ids : List ℕ) → c < length (m .comms) → failedShown c (shownFrom m ids) ≡ shownFrom (cellCutOff c m) ids
+unfolding failedShown shownFrom cellCutOff cpusChanged withCpus withComm
+failed-from m c [] h = refl
+failed-from m c (id ∷ ids) h = go (live m id) (failed-from m c ids h)
+  where
+    go : (b : Bool) → failedShown c (shownFrom m ids) ≡ shownFrom (cellCutOff c m) ids
+        → failedShown c (elim b [ true ↦ shownAt m id ∷ shownFrom m ids | false ↦ shownFrom m ids ])
+        ≡ elim b [ true ↦ shownAt (cellCutOff c m) id ∷ shownFrom (cellCutOff c m) ids | false ↦ shownFrom (cellCutOff c m) ids ]
+    go true e = ap₂ (λ (s : Shown) (ss : List Shown). s ∷ ss) (failed-at m c id h) e
+    go false e = e
+
+pub failed-shown : (m : Machine) (c : ℕ) → c < length (m .comms) → failedShown c (shownBy m) ≡ shownBy (cellCutOff c m)
+failed-shown m c h = failed-from m c cellIds h
 
 -- ---- a free ID
 

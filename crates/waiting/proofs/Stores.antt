@@ -18,7 +18,7 @@ use Rattle.machine_state.specs.declared.Answer.the-variants.{Done}
 use Rattle.machine_state.specs.declared.Machine.{Machine}
 use Rattle.machine_state.specs.declared.Stepped.{Stepped}
 use Rattle.machine_state.specs.Machine.{pastComm}
-use Rattle.rules.specs.State.{commAt, cpuAt, stateAt, isFinal, withComm, answered}
+use Rattle.rules.specs.State.{commAt, cpuAt, stateAt, limitAt, isFinal, withComm, answered}
 use Rattle.rules.specs.Unobeyed.{storeDenied}
 use Rattle.rules.specs.Effects.{storeWord, stored}
 use Rattle.rules.specs.Account.{waitedAt}
@@ -91,12 +91,17 @@ module _ (cpu word value : ℕ) (m : Machine) (allowed : storeDenied cpu word m 
 
   store-kept : Kept m (stored cpu word value m)
   unfolding stored words storeWord
-  store-kept = kept-words cell words m (passive word) (final word refl)
+  store-kept = kept-words cell words m (passive word) (limit word) (final word refl)
     where
       passive : (n : ℕ) → storeWord n value (commAt m cell) .passive ≡ commAt m cell .passive
       passive zero = refl
       passive (suc zero) = refl
       passive (suc (suc n)) = refl
+
+      limit : (n : ℕ) → storeWord n value (commAt m cell) .«reply_limit» ≡ limitAt m cell
+      limit zero = refl
+      limit (suc zero) = refl
+      limit (suc (suc n)) = refl
 
       final : (n : ℕ) → word ≡ n → isFinal (storeWord n value (commAt m cell) .«cell_state») ≡ false → isFinal (stateAt m cell) ≡ false
       final zero e t = t

@@ -3,25 +3,29 @@
 use mathlib.Core.Bool.{Bool, true, false, _&&_, _||_, or-true, true≢false, false≢true}
 use mathlib.Core.Path.{_≡_, refl, sym, ap, _∙_, subst}
 use mathlib.Core.Logic.{_⊎_, inl, inr}
-use Prim.Native.Nat.{ℕ, _+_}
+use Prim.Native.Nat.{ℕ, _+_, _<_}
+use mathlib.Core.List.{List}
 use native.Mathlib.Omega.{arith}
 use borrow.Author.Tests.{ltb-true, lt-ltb}
 use lib.Dec.{ltb}
 use lib.IntN.{pos}
+use lib.ListN.{length}
 use Rattle.base.specs.Rules.{EPERM}
+use Rattle.base.proofs.Tests.{is-true, is-false}
 use Rattle.machine_state.specs.declared.CallKind.{CallKind}
 use Rattle.machine_state.specs.declared.CallKind.the-variants.{Disable, Create, Start, SetLoadable, Destroy}
 use Rattle.machine_state.specs.declared.Machine.{Machine}
 use Rattle.rules.specs.State.{cellIds, noId, first}
-use Rattle.rules.specs.Asking.{mayBeMessaged, nextToMessage, asks, tells, isDestroy}
-use Rattle.rules.specs.Account.{Account, Place, Asks, Tells, Ended, movesTo, stays, remains, nextShown, lastCode, tellOn, effectComes, lockShown, noneLeftToAsk, askOn, heardBy, consentsBy, stateShown, polledAt, polled, waitedAt}
+use Rattle.rules.specs.Effects.{cellCutOff}
+use Rattle.rules.specs.Asking.{mayBeMessaged, nextToMessage, asks, tells, isDestroy, isLastPoll, pollsAfter}
+use Rattle.rules.specs.Account.{Shown, CutOff, NoneCut, WasCut, Account, Place, Asks, Tells, Ended, movesTo, cutting, staysWith, remains, nextShown, lastCode, tellOn, effectComes, lockShown, noneLeftToAsk, askOn, heardBy, consentsBy, stateShown, limitShown, failedShown, unheardAt, polledAt, polled, waitedAt}
 use Rattle.rules.specs.Observer.{shownBy}
 use Rattle.rules.proofs.Ids.{by-test, Found, None, first-from}
-use Rattle.waiting.specs.Steps.{timesWith}
+use Rattle.waiting.specs.Steps.{cutFrom, timesWith}
 use Rattle.waiting.specs.Demand3.{timesDue}
-use Rattle.waiting.proofs.Shown.{next-shown}
-use Rattle.waiting.proofs.Machines.{and-fst, and-snd}
-use Rattle.waiting.proofs.Moves.{AtPlace}
+use Rattle.waiting.proofs.Shown.{next-shown, failed-shown, live-lt}
+use Rattle.waiting.proofs.Machines.{AllWords, NoneWoken, cut-woken, and-fst, and-snd}
+use Rattle.waiting.proofs.Moves.{Heeds, AtPlace}
 
 -- ---- the cells still to come
 
@@ -215,49 +219,116 @@ module _ (m : Machine) (kind : CallKind) (target : ℕ) where
       there : ltb next noId ≡ true → NextCell (asks kind target) after m next
       there e = next-cell (asks kind target) after m e
 
-  -- ---- a poll
+-- ---- a poll
 
-  abbrev heardNow : Place → ℕ → Bool
-  heardNow place reply = heardBy reply (stateShown (waitedAt place) (shownBy m))
+-- where it went when the cell waited for was heard: as it goes on the machine on which it was
+pub record Heard (m : Machine) (kind : CallKind) (target : ℕ) (before : ℕ → Bool) (times : ℕ) (b : Account) : Type 0 where
+  pub cut : CutOff
+  pub bare : Account
+  pub same : b ≡ cutting cut bare
+  pub went : Went (cutFrom cut m) kind target before times bare
 
-  -- a cell not heard leaves the account where it is; else it goes on
+-- with no cell cut off
+heard-whole : (m : Machine) (kind : CallKind) (target : ℕ) (before : ℕ → Bool) (times : ℕ) (b : Account)
+    → Went m kind target before times b → Heard m kind target before times b
+unfolding cutFrom
+heard-whole m kind target before times b g =
+    record { cut = NoneCut; bare = b; same = ap (λ (a : Account). cutting (a .cut) b) (g .same); went = g }
+
+-- with the cell c cut off
+heard-cut : (c : ℕ) (m : Machine) (kind : CallKind) (target : ℕ) (before : ℕ → Bool) (times : ℕ) (b : Account)
+    → Went (cellCutOff c m) kind target before times b → Heard m kind target before times (cutting (WasCut c) b)
+unfolding cutFrom
+heard-cut c m kind target before times b g = record { cut = WasCut c; bare = b; same = refl; went = g }
+
+module _ (m : Machine) (kind : CallKind) (target : ℕ) where
+  -- the cell waited for shows a reply or a final state, or its limit has it heard
+  abbrev pub hearsNow : Place → ℕ → ℕ → Bool
+  hearsNow place polls reply =
+      heardBy reply (stateShown (waitedAt place) (shownBy m)) || isLastPoll (limitShown (waitedAt place) (shownBy m)) polls
+
+  -- a cell not heard leaves the account where it is, the poll counted; else it goes on
   unfoldable pub Polled : Place → ℕ → Account → Account → Type 0
   Polled place reply a b =
-      ((heardNow place reply ≡ false) × (b ≡ stays a)) ⊎ ((heardNow place reply ≡ true) × Went m kind target (toCome kind target place) (timesDue place) b)
+      ((hearsNow place (a .polls) reply ≡ false) × (b ≡ staysWith (pollsAfter (limitShown (waitedAt place) (shownBy m)) (a .polls)) a))
+      ⊎ ((hearsNow place (a .polls) reply ≡ true) × Heard m kind target (toCome kind target place) (timesDue place) b)
 
-  poll-at-went : (place : Place) (moved effect : Bool) (reply : ℕ) → AtPlace m target place reply → KindAt kind target place
-      → Polled place reply (record { kind = kind; target = target; place = place; moved = moved; effect = effect })
-      (polledAt place (record { kind = kind; target = target; place = place; moved = moved; effect = effect }) reply (shownBy m))
-  unfolding polledAt AtPlace KindAt toCome timesDue timesWith waitedAt Polled Fit times
-  poll-at-went (Asks c) moved effect reply w k =
-      by-test (Polled (Asks c) reply a) (heardBy reply state) moves (stays a)
-      (λ e. inr (
-        e,
-        by-test (Went m kind target (askAhead kind target c) 0) (consentsBy reply state) (askOn kind target c (shownBy m)) denied
-            (λ f. ask-went c) (λ f. record { effect = false; place = Ended EPERM; same = refl; fit = tt; due = refl }),
-      ))
-      (λ e. inl (e, refl))
-    where
-      a : Account
-      a = record { kind = kind; target = target; place = Asks c; moved = moved; effect = effect }
+  module _ (place : Place) (reply : ℕ) (a : Account) where
+    -- by the two tests
+    by-hearing : (heard last : Bool) (goes cuts : Account) → heardBy reply (stateShown (waitedAt place) (shownBy m)) ≡ heard
+        → isLastPoll (limitShown (waitedAt place) (shownBy m)) (a .polls) ≡ last
+        → (heard ≡ true → Heard m kind target (toCome kind target place) (timesDue place) goes)
+        → (last ≡ true → Heard m kind target (toCome kind target place) (timesDue place) cuts)
+        → Polled place reply a
+        (elim heard [ true ↦ goes | false ↦ elim last [ true ↦ cuts | false ↦ staysWith (pollsAfter (limitShown (waitedAt place) (shownBy m)) (a .polls)) a ] ])
+    unfolding Polled
+    by-hearing true last goes cuts e f g k = inr (rw e refl, g refl)
+    by-hearing false true goes cuts e f g k = inr (rw (e, f) refl, k refl)
+    by-hearing false false goes cuts e f g k = inl (rw (e, f) refl, refl)
 
-      state : ℕ
-      state = stateShown c (shownBy m)
+  module _ (h : AllWords m) where
+    inside : (c reply : ℕ) → Heeds m c reply → c < length (m .comms)
+    inside c reply w = subst (λ (n : ℕ). c < n) (sym h) (live-lt m c (w .alive))
 
-      denied : Account
-      denied = movesTo kind target false (Ended EPERM)
+    asks-cut : (c reply : ℕ) → Heeds m c reply
+        → Heard m kind target (askAhead kind target c) 0 (cutting (WasCut c) (askOn kind target c (failedShown c (shownBy m))))
+    asks-cut c reply w =
+        subst (λ (shown : List Shown). Heard m kind target (askAhead kind target c) 0 (cutting (WasCut c) (askOn kind target c shown)))
+        (sym (failed-shown m c (inside c reply w)))
+        (heard-cut c m kind target (askAhead kind target c) 0 (askOn kind target c (shownBy (cellCutOff c m))) (ask-went (cellCutOff c m) kind target c))
 
-      moves : Account
-      moves = elim (consentsBy reply state) [ true ↦ askOn kind target c (shownBy m) | false ↦ denied ]
-  poll-at-went (Tells c) moved effect reply w k =
-      by-test (Polled (Tells c) reply a) (heardBy reply (stateShown c (shownBy m))) (tellOn kind target false c (shownBy m)) (stays a)
-      (λ e. inr (e, tell-went false c (tellAhead kind target c) 1 k (λ f. w .1) (λ id h. h) refl)) (λ e. inl (e, refl))
-    where
-      a : Account
-      a = record { kind = kind; target = target; place = Tells c; moved = moved; effect = effect }
-  poll-at-went (Ended code) moved effect reply w k = absurd w
+    tells-cut : (c reply : ℕ) → Heeds m c reply → tells kind ≡ true → mayBeMessaged m target ≡ false
+        → Heard m kind target (tellAhead kind target c) 1 (cutting (WasCut c) (tellOn kind target false c (failedShown c (shownBy m))))
+    unfolding NoneWoken times
+    tells-cut c reply w k e =
+        subst (λ (shown : List Shown). Heard m kind target (tellAhead kind target c) 1 (cutting (WasCut c) (tellOn kind target false c shown)))
+        (sym (failed-shown m c (inside c reply w)))
+        (heard-cut c m kind target (tellAhead kind target c) 1 (tellOn kind target false c (shownBy (cellCutOff c m)))
+        (tell-went (cellCutOff c m) kind target false c (tellAhead kind target c) 1 k
+        (λ f. is-false (mayBeMessaged (cellCutOff c m) target) (λ t. true≢false (sym (cut-woken c m target (is-true _ t) .0) ∙ e))) (λ id g. g) refl))
 
-pub poll-went : (m : Machine) (a : Account) (reply : ℕ) → AtPlace m (a .target) (a .place) reply → KindAt (a .kind) (a .target) (a .place)
+    poll-at-went : (place : Place) (a : Account) (reply : ℕ) → a .kind ≡ kind → a .target ≡ target → AtPlace m target place reply → KindAt kind target place
+        → Polled place reply a (polledAt place a reply (shownBy m))
+    unfolding polledAt unheardAt AtPlace KindAt toCome timesDue timesWith waitedAt Fit times
+    poll-at-went (Asks c) a reply e f w k =
+        by-hearing (Asks c) reply a (heardBy reply state) (isLastPoll (limitShown c (shownBy m)) (a .polls))
+        (elim (consentsBy reply state) [ true ↦ askOn (a .kind) (a .target) c (shownBy m) | false ↦ movesTo (a .kind) (a .target) false (Ended EPERM) ])
+        (cutting (WasCut c) (askOn (a .kind) (a .target) c (failedShown c (shownBy m)))) refl refl
+        (λ t. by-test Here (consentsBy reply state) _ _ (λ d. of-call (λ i j. askOn i j c (shownBy m)) asked) (λ d. of-call (λ i j. movesTo i j false (Ended EPERM)) denied))
+        (λ t. of-call (λ i j. cutting (WasCut c) (askOn i j c (failedShown c (shownBy m)))) (asks-cut c reply w))
+      where
+        state : ℕ
+        state = stateShown c (shownBy m)
+
+        Here : Account → Type 0
+        Here b = Heard m kind target (askAhead kind target c) 0 b
+
+        of-call : (b : CallKind → ℕ → Account) → Here (b kind target) → Here (b (a .kind) (a .target))
+        of-call b g = subst (λ (j : ℕ). Here (b (a .kind) j)) (sym f) (subst (λ (i : CallKind). Here (b i target)) (sym e) g)
+
+        asked : Here (askOn kind target c (shownBy m))
+        asked = heard-whole m kind target (askAhead kind target c) 0 _ (ask-went m kind target c)
+
+        denied : Here (movesTo kind target false (Ended EPERM))
+        denied = heard-whole m kind target (askAhead kind target c) 0 _ (record { effect = false; place = Ended EPERM; same = refl; fit = tt; due = refl })
+    poll-at-went (Tells c) a reply e f w k =
+        by-hearing (Tells c) reply a (heardBy reply (stateShown c (shownBy m))) (isLastPoll (limitShown c (shownBy m)) (a .polls))
+        (tellOn (a .kind) (a .target) false c (shownBy m)) (cutting (WasCut c) (tellOn (a .kind) (a .target) false c (failedShown c (shownBy m)))) refl refl
+        (λ t. of-call (λ i j. tellOn i j false c (shownBy m)) told)
+        (λ t. of-call (λ i j. cutting (WasCut c) (tellOn i j false c (failedShown c (shownBy m)))) (tells-cut c reply (w .0) k (w .1)))
+      where
+        Here : Account → Type 0
+        Here b = Heard m kind target (tellAhead kind target c) 1 b
+
+        of-call : (b : CallKind → ℕ → Account) → Here (b kind target) → Here (b (a .kind) (a .target))
+        of-call b g = subst (λ (j : ℕ). Here (b (a .kind) j)) (sym f) (subst (λ (i : CallKind). Here (b i target)) (sym e) g)
+
+        told : Here (tellOn kind target false c (shownBy m))
+        told =
+            heard-whole m kind target (tellAhead kind target c) 1 _ (tell-went m kind target false c (tellAhead kind target c) 1 k (λ q. w .1) (λ id g. g) refl)
+    poll-at-went (Ended code) a reply e f w k = absurd w
+
+pub poll-went : (m : Machine) (a : Account) (reply : ℕ) → AllWords m → AtPlace m (a .target) (a .place) reply → KindAt (a .kind) (a .target) (a .place)
     → Polled m (a .kind) (a .target) (a .place) reply a (polled a reply (shownBy m))
 unfolding polled
-poll-went m a reply w k = poll-at-went m (a .kind) (a .target) (a .place) (a .moved) (a .effect) reply w k
+poll-went m a reply h w k = poll-at-went m (a .kind) (a .target) h (a .place) a reply refl refl w k

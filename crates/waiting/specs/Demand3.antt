@@ -4,15 +4,15 @@
 use mathlib.Core.Path.{_≡_}
 use mathlib.Core.Bool.{Bool, true, false, not, _&&_, _||_}
 use mathlib.Core.List.{List, _++_}
-use Prim.Native.Nat.{ℕ, _+_, _*_, _≤_}
+use Prim.Native.Nat.{ℕ, zero, suc, _+_, _*_, _≤_}
 use lib.Dec.{eqb}
 use lib.IntN.{pos, negsuc}
-use Rattle.base.specs.Lists.{all, pairwise}
+use Rattle.base.specs.Lists.{all, pairwise, upTo}
 use Rattle.cpu_set.specs.CpuSet.{countBelow}
 use Rattle.cell_record.specs.CellRecord.{cellOf}
 use Rattle.machine_state.specs.declared.Machine.{Machine}
-use Rattle.rules.specs.State.{rootId, noId, commAt, cpuAt, waits}
-use Rattle.rules.specs.Asking.{asks, tells, mayBeMessaged}
+use Rattle.rules.specs.State.{rootId, noId, commAt, cpuAt, limitAt, waits, withWaiting}
+use Rattle.rules.specs.Asking.{asks, tells, mayBeMessaged, withPolls}
 use Rattle.rules.specs.Account.{Account, Place, Asks, Tells, Ended, endedAt, answerOf}
 use Rattle.rules.specs.Run.{Line, Manager, Happened, happens, after, Accepted, startOf, isPoll}
 use Rattle.rules.specs.Answers.{isWait}
@@ -65,6 +65,11 @@ NoCallLeftWaiting h a = isWait (h .answer) ≡ false
 abbrev pub MovesAsAccount : CallLine → OfStep
 MovesAsAccount c h a = butWaiting (h .after) ≡ butWaiting (moveOf a (cellOf (c .bytes)) (countedFor (h .line .event) (h .before)))
 
+-- C-14: "a poll answered `wait C` for the same message changes that count and nothing else": a step with which the account stays where it is leaves the
+-- machine with the account's count, and as it was
+abbrev pub CountsOnly : OfStep
+CountsOnly h a = a .moved ≡ false → h .after ≡ withWaiting (withPolls (a .polls) (h .before .waiting)) (h .before)
+
 -- "Until its end nothing else changes live cells, phases, CPU owners or pool use": a step with which the effect does not come keeps the table
 abbrev pub KeepsTable : OfStep
 KeepsTable h a = a .effect ≡ false → cellTableOf (h .after) ≡ cellTableOf (h .before)
@@ -97,6 +102,17 @@ inW a met id = (asks (a .kind) (a .target) id || tells (a .kind)) && mayBeMessag
 abbrev pub sizeOfW : Account → Machine → ℕ
 sizeOfW a met = countBelow noId (inW a met)
 
+-- C-14: "where every cell of W has a non-zero limit", and "the sum of those limits"
+unfoldable pub allLimited : Account → Machine → Bool
+allLimited a met = all (λ id. not (inW a met id) || not (eqb (limitAt met id) 0)) (upTo noId)
+
+unfoldable pub sumBelow : ℕ → (ℕ → ℕ) → ℕ
+sumBelow zero f = 0
+sumBelow (suc n) f = sumBelow n f + f n
+
+abbrev pub sumOfLimits : Account → Machine → ℕ
+sumOfLimits a met = sumBelow noId (λ id. elim (inW a met id) [ true ↦ limitAt met id | false ↦ 0 ])
+
 -- the cells that the call messages, in their order
 abbrev pub messaged : Manager → CallLine → Machine → List Line → List ℕ
 messaged manager c met later = messagedWith (account (atCall manager c met)) ++ messagedIn manager (atCall manager c met) later
@@ -108,10 +124,16 @@ pub record Bounded (manager : Manager) (c : CallLine) (met : Machine) (later : L
   pub inside : all (inW (account (atCall manager c met)) met) (messaged manager c met later) ≡ true
   pub once : pairwise (λ a b. not (eqb a b)) (messaged manager c met later) ≡ true
   -- "If each messaged cell shows a reply or a final state at one of the first K polls after its message (K at least 1), the call ends within n
-  -- times K polls, if that many follow it in the list": every list `later`, so also the one that ends with the n times K-th poll
+  -- times K polls, if that many follow it in the list": every list `later`, so also the one that ends with the n times K-th poll. C-14: "a non-zero L
+  -- serves where it is at most K"
   pub ends :
       (k : ℕ) → 1 ≤ k → heardWithin manager k 0 (atCall manager c met) later ≡ true
       → sizeOfW (account (atCall manager c met)) met * k ≤ pollsIn later → accountEnded (since manager c met later) ≡ true
+  -- C-14: "where every cell of W has a non-zero limit, the call ends within the sum of those limits, if that many polls follow it in the list, with no
+  -- premise about replies"
+  pub ends-by-limits :
+      allLimited (account (atCall manager c met)) met ≡ true → sumOfLimits (account (atCall manager c met)) met ≤ pollsIn later
+      → accountEnded (since manager c met later) ≡ true
 
 -- ---- the claim
 
@@ -127,7 +149,9 @@ pub record WaitingCall (manager : Manager) (c : CallLine) (met : Machine) : Type
   pub effect : OwnSteps manager c met (MovesAsAccount c) × EffectOnce manager c met
   -- nothing else changes the table, whatever any CPU does
   pub frame : OwnSteps manager c met KeepsTable × OtherSteps manager c met KeepsTable
-  -- W, n and K
+  -- a poll that hears nothing counts, where the cell has a limit, and does no more
+  pub counts : OwnSteps manager c met CountsOnly
+  -- W, n and K, and the limits
   pub bound : (later : List Line) → Bounded manager c met later
   -- no reply from before a message is taken
   pub messages : OwnSteps manager c met FromCleared

@@ -1,10 +1,10 @@
 -- The steps of a list of events after a call, and the account beside them. Demand 3: "Take every list of events (calls, stores, faults, exits,
 -- polls, malformed and unobeyed ones included) .. Each event meets the machine that the last one left". The account is fed by its observer
 -- (`rules`, Account and Observer), which never sees the waiting call.
-use mathlib.Core.Bool.{Bool, true, false, _&&_}
+use mathlib.Core.Bool.{Bool, true, false, not, _&&_, _||_}
 use mathlib.Core.List.{List, [], _∷_, _++_, map}
 use Prim.Native.Nat.{ℕ, suc, _+_}
-use lib.Dec.{ltb}
+use lib.Dec.{leb, ltb, eqb}
 use Rattle.cell_record.specs.declared.CellConfig.{CellConfig}
 use Rattle.machine_state.specs.declared.Cpu.{Cpu}
 use Rattle.machine_state.specs.declared.Cell.{Cell}
@@ -14,9 +14,9 @@ use Rattle.machine_state.specs.declared.Event.{Event}
 use Rattle.machine_state.specs.declared.Event.the-variants.{Call, Store, Fault, Exit, Poll, Malformed}
 use Rattle.machine_state.specs.declared.Machine.{Machine}
 use Rattle.rules.specs.State.{commAt, withComm, withWaiting}
-use Rattle.rules.specs.Effects.{counted, callCounter, effect}
+use Rattle.rules.specs.Effects.{counted, callCounter, effect, cellCutOff}
 use Rattle.rules.specs.Asking.{message, shutdownRequest, reconfigCompleted}
-use Rattle.rules.specs.Account.{Account, Place, Asks, Tells, Ended, endedAt, waitedAt, heardBy, stateShown}
+use Rattle.rules.specs.Account.{Account, CutOff, NoneCut, WasCut, Place, Asks, Tells, Ended, endedAt, waitedAt, heardBy, stateShown, limitShown}
 use Rattle.rules.specs.Observer.{Watched, watchedCall, watched, shownBy}
 use Rattle.rules.specs.Run.{Line, Manager, happens, isPoll}
 
@@ -71,12 +71,18 @@ messagedAt (Asks c) m = withComm c (message shutdownRequest (commAt m c)) m
 messagedAt (Tells c) m = withComm c (message reconfigCompleted (commAt m c)) m
 messagedAt (Ended code) m = m
 
--- the account's last move on a machine: the effect's rule, if it came with it, then the message, if it moved. `new` is Create's cell
+-- the account's last move on a machine: the cell that its limit cut off, if any; then the effect's rule, if it came with it; then the message, if
+-- it moved. `new` is Create's cell
+unfoldable pub cutFrom : CutOff → Machine → Machine
+cutFrom NoneCut m = m
+cutFrom (WasCut c) m = cellCutOff c m
+
 unfoldable pub accountEffect : Account → CellConfig → Machine → Machine
 accountEffect a new m = elim (a .effect) [ true ↦ effect (a .kind) (a .target) new m | false ↦ m ]
 
 unfoldable pub moveOf : Account → CellConfig → Machine → Machine
-moveOf a new m = elim (a .moved) [ true ↦ messagedAt (a .place) (accountEffect a new m) | false ↦ accountEffect a new m ]
+moveOf a new m =
+    let n = accountEffect a new (cutFrom (a .cut) m) in elim (a .moved) [ true ↦ messagedAt (a .place) n | false ↦ n ]
 
 -- "An obeyed call .. first adds one to its own counter and the total of that CPU"
 unfoldable pub countedFor : Event → Machine → Machine
@@ -145,8 +151,15 @@ pollsIn (l ∷ ls) = elim (isPoll (l .event)) [ true ↦ suc (pollsIn ls) | fals
 abbrev pub shows : Moment → Bool
 shows now = heardBy (now .watch .reply) (stateShown (waitedAt (account now .place)) (shownBy (now .machine)))
 
--- "each messaged cell shows a reply or a final state at one of the first K polls after its message": `spent` polls since its message have shown
--- none, and one more that shows none is not yet the K-th. After the end nothing is asked
+-- C-14: "In the K form, a non-zero L serves where it is at most K": the limit of the cell waited for
+abbrev pub waitedLimit : Moment → ℕ
+waitedLimit now = limitShown (waitedAt (account now .place)) (shownBy (now .machine))
+
+abbrev pub serves : ℕ → ℕ → Bool
+serves k limit = not (eqb limit 0) && leb limit k
+
+-- "each messaged cell shows a reply or a final state at one of the first K polls after its message", or its limit serves: `spent` polls since its
+-- message have shown none, and one more that shows none is not yet the K-th. After the end nothing is asked
 unfoldable pub heardWithin : Manager → ℕ → ℕ → Moment → List Line → Bool
 heardWithin manager k spent now [] = true
 heardWithin manager k spent now (l ∷ ls) =
@@ -154,7 +167,7 @@ heardWithin manager k spent now (l ∷ ls) =
     elim (accountEnded now) [
       | true ↦ true
       | false ↦ elim (isPoll (l .event)) [
-        | true ↦ elim (shows now) [
+        | true ↦ elim (shows now || serves k (waitedLimit now)) [
           | true ↦ heardWithin manager k 0 after ls
           | false ↦ ltb (suc spent) k && heardWithin manager k (suc spent) after ls
         ]

@@ -8,13 +8,14 @@ use lib.IntN.{pos}
 use Rattle.cell_record.specs.CellRecord.{cellOf}
 use Rattle.machine_state.specs.declared.Waiting.{Waiting}
 use Rattle.machine_state.specs.declared.Waiting.the-variants.{NoCall, Pending}
+use Rattle.machine_state.specs.declared.Answer.the-variants.{Wait}
 use Rattle.machine_state.specs.declared.Event.the-variants.{Call, Store, Fault, Exit, Poll, Malformed}
 use Rattle.machine_state.specs.declared.Machine.{Machine}
 use Rattle.machine_state.specs.declared.Stepped.{Stepped}
-use Rattle.rules.specs.State.{commAt, withComm, withWaiting, answered}
+use Rattle.rules.specs.State.{commAt, limitAt, withComm, withCpus, withWaiting, answered}
 use Rattle.rules.specs.Answers.{isNegative, isWait}
-use Rattle.rules.specs.Effects.{withMessage, withReply, cellDestroyed}
-use Rattle.rules.specs.Asking.{message, shutdownRequest, consents, isDestroy, tell, carryOut, ask, finished}
+use Rattle.rules.specs.Effects.{withMessage, withReply, cellDestroyed, cellCutOff}
+use Rattle.rules.specs.Asking.{message, shutdownRequest, consents, isDestroy, tell, carryOut, ask, finished, hear, isLastPoll, withPolls, cutsOff, stillWaits}
 use Rattle.rules.specs.Calls.{cellDestroy}
 use Rattle.rules.specs.Step.{step}
 use Rattle.rules.specs.Run.{Manager}
@@ -110,3 +111,30 @@ tellsOn (Pending kind stage) m s =
 
 unfoldable pub tellsFirst : Manager
 tellsFirst = changed oursAtCall (λ bytes m s. tellsOn (m .waiting) m s)
+
+-- ---- the reply limit: it never cuts a cell off; the CPUs of the cell go on running; a reply at the limit's poll is lost
+unfoldable pub waitsOn : Waiting → Machine → Stepped → Stepped
+waitsOn NoCall m s = s
+waitsOn (Pending kind stage) m s = elim (cutsOff stage m) [ true ↦ answered (Wait (stage .cell)) (stillWaits kind stage m) | false ↦ s ]
+
+unfoldable pub neverCutsOff : Manager
+neverCutsOff = changed oursAtCall (λ bytes m s. waitsOn (m .waiting) m s)
+
+unfoldable pub runsOn : Waiting → Machine → Stepped → Stepped
+runsOn NoCall m s = s
+runsOn (Pending kind stage) m s = leaving (cutsOff stage m) (withCpus (m .cpus) (s .machine)) s
+
+unfoldable pub leavesRunning : Manager
+leavesRunning = changed oursAtCall (λ bytes m s. runsOn (m .waiting) m s)
+
+unfoldable pub cutsAnyway : Waiting → List ℕ → Machine → Stepped → Stepped
+cutsAnyway NoCall bytes m s = s
+cutsAnyway (Pending kind stage) bytes m s =
+    elim (isLastPoll (limitAt m (stage .cell)) (stage .polls)) [ true ↦ hear kind stage (cellOf bytes) (cellCutOff (stage .cell) m) | false ↦ s ]
+
+unfoldable pub losesReply : Manager
+losesReply = changed oursAtCall (λ bytes m s. cutsAnyway (m .waiting) bytes m s)
+
+-- ---- a poll that waits counts though the cell has no limit
+unfoldable pub countsUnlimited : Manager
+countsUnlimited = changed oursAtCall (λ bytes m s. leaving (isWait (s .answer)) (withWaiting (withPolls 1 (s .machine .waiting)) (s .machine)) s)

@@ -2,7 +2,7 @@
 use mathlib.Core.Path.{sym, ap, _∙_}
 use Rattle.machine_state.specs.declared.Waiting.{Waiting}
 use Rattle.rules.specs.Asking.{poll}
-use Rattle.asking.proofs.Laws.{moves-as}
+use Rattle.asking.proofs.Laws.{moves-as, moves-uncut, poll-as}
 use borrow.Author.Needs.{needs}
 use Rattle.asking.proofs.poll.Statement.{statement}
 use Rattle.asking.proofs.poll.Tie as tie
@@ -10,13 +10,13 @@ use Rattle.asking.proofs.poll.Tie as tie
 returns : tie.Need-returns
 unfolding poll
 returns c =
-    moves-as (c .stay .ensures) (λ m h. h .waits) (λ m new h. ap (λ (w : Waiting). poll w new m) (sym (c .before .enum-told .given .1)))
+    moves-uncut (moves-as (c .stay .ensures) (λ m h. h .waits) (λ m new h. ap (λ (w : Waiting). poll w new m) (sym (c .before .enum-told .given .1))))
 
 returns-2 : tie.Need-returns-2
 unfolding poll
 returns-2 c =
     let told = c .before .before .waiting .given .1 in
-    moves-as (c .poll-cell .ensures) (λ m h. record { parts = h .parts; waits = h .waits ∙ told; words = rw told at (h .words) })
+    poll-as (c .poll-cell .ensures) (λ m h. record { parts = h .parts; waits = h .waits ∙ told; words = rw told at (h .words) })
     (λ m new h. ap (λ (w : Waiting). poll w new m) (sym told))
 
 pub poll-spec : {M : Type 1} → statement M

@@ -1,10 +1,13 @@
--- `asking::poll_cell` meets its contract: by whether the cell is heard. Past the table's end nobody is. Assumes nothing.
-use mathlib.Core.Path.{ap, _∙_}
+-- `asking::poll_cell` meets its contract: by whether the cell is heard, and by whether its limit cuts it off. Past the table's end there is neither. Assumes
+-- nothing.
+use mathlib.Core.Path.{_≡_, sym, ap, _∙_}
 use mathlib.Core.List.{List}
+use Prim.Native.Nat.{ℕ}
 use lib.ListN.{length}
 use Rattle.machine_state.specs.declared.CommRegion.{CommRegion}
+use Rattle.rules.specs.Asking.{isLastPoll}
 use Rattle.unobeyed.specs.Admission.{waitedCell}
-use Rattle.asking.proofs.Laws.{moves-as, polled-heard, polled-unheard, own-words, heard-place, unheard-place}
+use Rattle.asking.proofs.Laws.{moves-as, moves-uncut, poll-as, polled-heard, polled-last, polled-unheard, own-words, heard-place, unheard-place, last-inside, inside-words}
 use borrow.Author.Needs.{needs}
 use Rattle.asking.proofs.poll_cell.Statement.{statement}
 use Rattle.asking.proofs.poll_cell.Tie as tie
@@ -13,21 +16,53 @@ returns : tie.Need-returns
 unfolding waitedCell
 returns c =
     let heard = c .before .before in
-    let a = heard .before .args in
-    moves-as (c .hear .ensures)
+    let a = heard .before .before .before .args in
+    moves-uncut
+    (moves-as (c .hear .ensures)
     (λ m h. record { parts = h .parts; words = own-words m (a .stage .cell) _ _ (h .words) (heard .is-heard .ensures) (c .before .if1 .taken) })
-    (λ m new h. polled-heard (a .kind) (a .stage) new m (heard-place m (a .stage .cell) _ _ (h .words) (heard .is-heard .ensures) (c .before .if1 .taken)))
+    (λ m new h. polled-heard (a .kind) (a .stage) new m (heard-place m (a .stage .cell) _ _ (h .words) (heard .is-heard .ensures) (c .before .if1 .taken))))
+
+cut-off-requires : tie.Need-cut-off-requires
+cut-off-requires c κs =
+    let asked = c .before .before .before in
+    last-inside _ _ _ _ (asked .before .limit-for .ensures) (sym (asked .is-last-poll .ensures) ∙ c .if2 .taken)
 
 returns-2 : tie.Need-returns-2
 unfolding waitedCell
 returns-2 c =
-    let heard = c .before .before in
-    let entry = heard .before in
+    let heard = c .before .before .before in
+    let asked = heard .before in
+    let entry = asked .before .before in
     let a = entry .args in
-    moves-as (c .stay .ensures) (λ m h. h .waits)
-    (λ m new h. polled-unheard (a .kind) (a .stage) new m
-    (unheard-place m (a .stage .cell) _ _ (h .words) (heard .is-heard .ensures) (c .before .if1 .left)
-    (ap (λ (l : List CommRegion). length l) (h .parts .words) ∙ entry .good .1 .0 .1 .0 .1)))
+    let limit = asked .before .limit-for .ensures in
+    let last = sym (asked .is-last-poll .ensures) ∙ c .before .if2 .taken in
+    let size = entry .good .1 .0 .1 .0 .1 in
+    poll-as (c .cut-off .ensures)
+    (λ m h. record { parts = h .parts; words = inside-words m _ _ (last-inside _ _ _ _ limit last) (h .words) })
+    (λ m new h.
+    let long = ap (λ (l : List CommRegion). length l) (h .parts .words) ∙ size in
+    polled-last (a .kind) (a .stage) new m (unheard-place m (a .stage .cell) _ _ (h .words) (heard .is-heard .ensures) (c .before .before .if1 .left) long)
+    (ap (λ (n : ℕ). isLastPoll n (a .stage .polls)) (sym (limit .own m long (h .words))) ∙ last))
+
+still-waits-requires : tie.Need-still-waits-requires
+still-waits-requires c κs = sym (c .before .before .before .is-last-poll .ensures) ∙ c .if2 .left
+
+returns-3 : tie.Need-returns-3
+unfolding waitedCell
+returns-3 c =
+    let heard = c .before .before .before in
+    let asked = heard .before in
+    let entry = asked .before .before in
+    let a = entry .args in
+    let limit = asked .before .limit-for .ensures in
+    let last = sym (asked .is-last-poll .ensures) ∙ c .before .if2 .left in
+    let size = entry .good .1 .0 .1 .0 .1 in
+    moves-uncut
+    (moves-as (c .still-waits .ensures) (λ m h. sym (limit .own m (ap (λ (l : List CommRegion). length l) (h .parts .words) ∙ size) (h .words)))
+    (λ m new h.
+    let long = ap (λ (l : List CommRegion). length l) (h .parts .words) ∙ size in
+    polled-unheard (a .kind) (a .stage) new m (unheard-place m (a .stage .cell) _ _ (h .words) (heard .is-heard .ensures) (c .before .before .if1 .left) long)
+    (ap (λ (n : ℕ). isLastPoll n (a .stage .polls)) (sym (limit .own m long (h .words))) ∙ last)))
 
 pub poll-cell-spec : {M : Type 1} → statement M
-poll-cell-spec = tie.close (tie.spec (λ c κs. search needs) (λ c κs. search needs) (λ c κs. search needs) returns returns-2)
+poll-cell-spec = tie.close (tie.spec (λ c κs. search needs) (λ c κs. search needs) (λ c κs. search needs) (λ c κs. search needs) returns cut-off-requires returns-2 still-waits-requires returns-3)

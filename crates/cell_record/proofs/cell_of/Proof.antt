@@ -10,17 +10,18 @@ use Rattle.cell_record.proofs.cell_of.Tie as tie
 returns : tie.Need-returns
 unfolding cellOf
 returns c =
-    let count = c .before .before .before .before .u16-at .ensures in
-    let name = c .before .before .before .name .ensures in
-    let regions = c .before .before .cell-table .ensures in
-    let passive = ap (λ (n : ℕ). eqb (n % 2) 1) (c .before .u16-at2 .ensures) in
+    let count = c .before .before .before .before .before .u16-at .ensures in
+    let name = c .before .before .before .before .name .ensures in
+    let regions = c .before .before .before .cell-table .ensures in
+    let passive = ap (λ (n : ℕ). eqb (n % 2) 1) (c .before .before .u16-at2 .ensures) in
     λ i. record {
       name = name i;
       passive = passive i;
+      «reply_limit» = c .before .u16-at3 .ensures i;
       cpus = c .u64-at .ensures i;
       «region_count» = count i;
       regions = regions i;
     }
 
 pub cell-of-spec : {M : Type 1} → statement M
-cell-of-spec = tie.close (tie.spec (λ c κs. search needs) (λ c. search needs) (λ c κs. search needs) (λ c κs. search needs) (λ c κs. search needs) (λ c κs. search needs) returns)
+cell-of-spec = tie.close (tie.spec (λ c κs. search needs) (λ c. search needs) (λ c κs. search needs) (λ c κs. search needs) (λ c κs. search needs) (λ c κs. search needs) (λ c κs. search needs) returns)

@@ -58,7 +58,7 @@ returns-4 c bytes = at-event bytes (c .before .before .e4 .given .1) (settles-as
 
 returns-5 : tie.Need-returns-5
 unfolding obeyed
-returns-5 c bytes = at-event bytes (c .before .enum-told .given .1) (polls bytes _ (c .poll .ensures))
+returns-5 c bytes = at-event bytes (c .before .before .enum-told .given .1) (polls bytes _ (c .before .poll .ensures))
 
 returns-6 : tie.Need-returns-6
 unfolding obeyed

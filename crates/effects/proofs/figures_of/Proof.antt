@@ -11,15 +11,17 @@ use Rattle.effects.proofs.figures_of.Tie as tie
 returns : tie.Need-returns
 unfolding figuresOf cellOf
 returns c =
-    let comm = c .before in
+    let passive = c .before in
+    let comm = passive .before in
     let count = comm .before in
     let cpus = count .before in
     λ i. record {
       cpus = cpus .u64-at .ensures i;
       «region_count» = count .u16-at .ensures i;
       mapped = comm .has-comm .ensures i;
-      passive = eqb (c .u16-at2 .ensures i % 2) 1;
+      passive = eqb (passive .u16-at2 .ensures i % 2) 1;
+      «reply_limit» = c .u16-at3 .ensures i;
     }
 
 pub figures-of-spec : {M : Type 1} → statement M
-figures-of-spec = tie.close (tie.spec (λ c κs. search needs) (λ c κs. search needs) (λ c. search needs) (λ c κs. search needs) (λ c κs. search needs) returns)
+figures-of-spec = tie.close (tie.spec (λ c κs. search needs) (λ c κs. search needs) (λ c. search needs) (λ c κs. search needs) (λ c κs. search needs) (λ c κs. search needs) returns)

@@ -13,7 +13,8 @@ unfolding withCpus withComm answered
 returns c =
     let words = c .before in
     let effect = words .before .before in
-    let touch = effect .before in
+    let cut = effect .before in
+    let touch = cut .before in
     let decided = touch .before .before .before in
     let scanned = decided .before .before .before in
     let at = scanned .before .before in
@@ -25,7 +26,7 @@ returns c =
     let found = scanned .scan .ensures in
     let says = found .found m (scan-parts m _ _ _ (cpu .cpu-for .ensures) (at .words-for .ensures) _ (own .cell-index .ensures)) in
     let back = toZ-ofZ {w = w32} {z = scanned .scan .result} (record { sfits = scanned .scan .ok }) in
-    applied (decided .decide .result) _ m _ _ _ _ (touch .change-cpu .ensures) (effect .carry-out .ensures) (words .change-words .ensures) (c .with-waiting .ensures)
+    applied (decided .decide .result) _ m _ _ _ _ _ (touch .change-cpu .ensures) (cut .cut-off .ensures) (effect .carry-out .ensures) (words .change-words .ensures) (c .with-waiting .ensures)
     ∙ decided .decide .ensures .settles _ m
     (refl, all-parts m _ _ _ (cpu .cpu-for .ensures) (at .words-for .ensures) _ _ _ _ (asked .asked-for .ensures) (found .words) (found .cpus) back says)
 
@@ -34,5 +35,5 @@ step-spec =
     tie.close
     (tie.spec (λ c κs. search needs) (λ c. search needs) (λ c. search needs) (λ c κs. search needs) (λ c. search needs) (λ c. search needs) (λ c κs. search needs)
     (λ c κs. search needs) (λ c. search needs) (λ c. search needs) (λ c. search needs) (λ c. search needs) (λ c κs. search needs) (λ c κs. search needs)
-    (λ c. search needs) (λ c. search needs) (λ c κs. search needs) (λ c. search needs) (λ c. search needs) (λ c κs. search needs)
+    (λ c. search needs) (λ c. search needs) (λ c κs. search needs) (λ c. search needs) (λ c. search needs) (λ c κs. search needs) (λ c κs. search needs)
     (λ c. search needs) (λ c. search needs) (λ c κs. search needs) (λ c. search needs) (λ c. search needs) (λ c κs. search needs) returns)

@@ -18,7 +18,7 @@ use Rattle.rules.specs.Effects.{disabled}
 use Rattle.asking.specs.declared.Effect.{Effect}
 use Rattle.asking.specs.Moves.{effectOf}
 use Rattle.effects.specs.Parts.{changedCell, partsStored}
-use Rattle.effects.proofs.Laws.{disable-comes}
+use Rattle.effects.proofs.Laws.{disable-comes, cut-stored, none-cut}
 use Rattle.manager.proofs.Laws.{scan-parts, all-parts, applied}
 use Rattle.replay_log.specs.Feed.{feed, goingOf, keptBytes}
 use Rattle.replay_log.proofs.Buffers.{begun-short, less-end, less-turn, may-go, kept-bytes}
@@ -41,47 +41,47 @@ mul-change-cpu c = let inside = c .before .before .before .before .before .decid
 element-copy-out-change-cpu : tie.Need-element-copy-out-change-cpu Inv-loop μ-loop
 element-copy-out-change-cpu c = let inside = c .before .before .before .before .before .decide .ensures .cpu in search needs
 
-mul-t59 : tie.Need-mul-t59 Inv-loop μ-loop
-mul-t59 c = let inside = c .before .before .before .before .before .before .before .decide .ensures .cpu in search needs
+mul-t62 : tie.Need-mul-t62 Inv-loop μ-loop
+mul-t62 c = let inside = c .before .before .before .before .before .before .before .decide .ensures .cpu in search needs
 
 element-set-from-m : tie.Need-element-set-from-m Inv-loop μ-loop
 element-set-from-m c = let inside = c .before .before .before .before .before .before .before .decide .ensures .cpu in search needs
 
 mul-change-words : tie.Need-mul-change-words Inv-loop μ-loop
-mul-change-words c = let inside = c .before .before .before .before .before .before .before .before .before .decide .ensures .cell in search needs
+mul-change-words c = let inside = c .before .before .before .before .before .before .before .before .before .before .decide .ensures .cell in search needs
 
 element-copy-out-change-words : tie.Need-element-copy-out-change-words Inv-loop μ-loop
-element-copy-out-change-words c = let inside = c .before .before .before .before .before .before .before .before .before .decide .ensures .cell in search needs
+element-copy-out-change-words c = let inside = c .before .before .before .before .before .before .before .before .before .before .decide .ensures .cell in search needs
 
-mul-t95 : tie.Need-mul-t95 Inv-loop μ-loop
-mul-t95 c = let inside = c .before .before .before .before .before .before .before .before .before .before .before .decide .ensures .cell in search needs
+mul-t99 : tie.Need-mul-t99 Inv-loop μ-loop
+mul-t99 c = let inside = c .before .before .before .before .before .before .before .before .before .before .before .before .decide .ensures .cell in search needs
 
 element-set-from-m-2 : tie.Need-element-set-from-m-2 Inv-loop μ-loop
-element-set-from-m-2 c = let inside = c .before .before .before .before .before .before .before .before .before .before .before .decide .ensures .cell in search needs
+element-set-from-m-2 c = let inside = c .before .before .before .before .before .before .before .before .before .before .before .before .decide .ensures .cell in search needs
 
 mul-change-words-2 : tie.Need-mul-change-words-2 Inv-loop μ-loop
-mul-change-words-2 c = let inside = c .before .before .before .before .before .before .before .before .before .before .before .before .before .before .decide .ensures .cell in search needs
+mul-change-words-2 c = let inside = c .before .before .before .before .before .before .before .before .before .before .before .before .before .before .before .decide .ensures .cell in search needs
 
 element-copy-out-change-words-2 : tie.Need-element-copy-out-change-words-2 Inv-loop μ-loop
-element-copy-out-change-words-2 c = let inside = c .before .before .before .before .before .before .before .before .before .before .before .before .before .before .decide .ensures .cell in search needs
+element-copy-out-change-words-2 c = let inside = c .before .before .before .before .before .before .before .before .before .before .before .before .before .before .before .decide .ensures .cell in search needs
 
-mul-t105 : tie.Need-mul-t105 Inv-loop μ-loop
-mul-t105 c = let inside = c .before .before .before .before .before .before .before .before .before .before .before .before .before .before .before .before .decide .ensures .cell in search needs
+mul-t109 : tie.Need-mul-t109 Inv-loop μ-loop
+mul-t109 c = let inside = c .before .before .before .before .before .before .before .before .before .before .before .before .before .before .before .before .before .decide .ensures .cell in search needs
 
 element-set-from-m-3 : tie.Need-element-set-from-m-3 Inv-loop μ-loop
-element-set-from-m-3 c = let inside = c .before .before .before .before .before .before .before .before .before .before .before .before .before .before .before .before .decide .ensures .cell in search needs
+element-set-from-m-3 c = let inside = c .before .before .before .before .before .before .before .before .before .before .before .before .before .before .before .before .before .decide .ensures .cell in search needs
 
 mul-change-words-3 : tie.Need-mul-change-words-3 Inv-loop μ-loop
-mul-change-words-3 c = let inside = c .before .before .before .before .before .before .before .before .before .before .before .before .before .before .before .before .before .before .before .before .before .decide .ensures .cell in search needs
+mul-change-words-3 c = let inside = c .before .before .before .before .before .before .before .before .before .before .before .before .before .before .before .before .before .before .before .before .before .before .decide .ensures .cell in search needs
 
 element-copy-out-change-words-3 : tie.Need-element-copy-out-change-words-3 Inv-loop μ-loop
-element-copy-out-change-words-3 c = let inside = c .before .before .before .before .before .before .before .before .before .before .before .before .before .before .before .before .before .before .before .before .before .decide .ensures .cell in search needs
+element-copy-out-change-words-3 c = let inside = c .before .before .before .before .before .before .before .before .before .before .before .before .before .before .before .before .before .before .before .before .before .before .decide .ensures .cell in search needs
 
-mul-t110 : tie.Need-mul-t110 Inv-loop μ-loop
-mul-t110 c = let inside = c .before .before .before .before .before .before .before .before .before .before .before .before .before .before .before .before .before .before .before .before .before .before .before .decide .ensures .cell in search needs
+mul-t114 : tie.Need-mul-t114 Inv-loop μ-loop
+mul-t114 c = let inside = c .before .before .before .before .before .before .before .before .before .before .before .before .before .before .before .before .before .before .before .before .before .before .before .before .decide .ensures .cell in search needs
 
 element-set-from-m-5 : tie.Need-element-set-from-m-5 Inv-loop μ-loop
-element-set-from-m-5 c = let inside = c .before .before .before .before .before .before .before .before .before .before .before .before .before .before .before .before .before .before .before .before .before .before .before .decide .ensures .cell in search needs
+element-set-from-m-5 c = let inside = c .before .before .before .before .before .before .before .before .before .before .before .before .before .before .before .before .before .before .before .before .before .before .before .before .decide .ensures .cell in search needs
 
 mul-numbers-after : tie.Need-mul-numbers-after Inv-loop μ-loop
 mul-numbers-after c = let inside = c .before .before .before .cell-index2 .ensures .inside in search needs
@@ -107,8 +107,8 @@ mul-m c = let inside = c .before .before .before .before .before .before .before
 element-set-from-m-4 : tie.Need-element-set-from-m-4 Inv-loop μ-loop
 element-set-from-m-4 c = let inside = c .before .before .before .before .before .before .before .before .cell-index2 .ensures .inside in search needs
 
-mul-t140 : tie.Need-mul-t140 Inv-loop μ-loop
-mul-t140 c = let inside = c .before .before .before .before .before .before .before .before .before .before .before .before .before .before .before .before .cell-index2 .ensures .inside in search needs
+mul-t144 : tie.Need-mul-t144 Inv-loop μ-loop
+mul-t144 c = let inside = c .before .before .before .before .before .before .before .before .before .before .before .before .before .before .before .before .cell-index2 .ensures .inside in search needs
 
 element-set-from-m-6 : tie.Need-element-set-from-m-6 Inv-loop μ-loop
 element-set-from-m-6 c = let inside = c .before .before .before .before .before .before .before .before .before .before .before .before .before .before .before .before .cell-index2 .ensures .inside in search needs
@@ -119,14 +119,14 @@ mul-with-phase c = let inside = c .before .before .before .before .before .befor
 element-copy-out-with-phase : tie.Need-element-copy-out-with-phase Inv-loop μ-loop
 element-copy-out-with-phase c = let inside = c .before .before .before .before .before .before .before .before .before .before .before .before .before .before .cell-index2 .ensures .inside in search needs
 
-mul-t148 : tie.Need-mul-t148 Inv-loop μ-loop
-mul-t148 c = let inside = c .before .before .before .before .before .before .before .before .before .before .before .before .before .before .before .before .cell-index2 .ensures .inside in search needs
+mul-t152 : tie.Need-mul-t152 Inv-loop μ-loop
+mul-t152 c = let inside = c .before .before .before .before .before .before .before .before .before .before .before .before .before .before .before .before .cell-index2 .ensures .inside in search needs
 
 element-set-from-m-7 : tie.Need-element-set-from-m-7 Inv-loop μ-loop
 element-set-from-m-7 c = let inside = c .before .before .before .before .before .before .before .before .before .before .before .before .before .before .before .before .cell-index2 .ensures .inside in search needs
 
-mul-t152 : tie.Need-mul-t152 Inv-loop μ-loop
-mul-t152 c = let inside = c .before .before .before .before .before .before .before .before .before .before .before .before .before .before .cell-index2 .ensures .inside in search needs
+mul-t156 : tie.Need-mul-t156 Inv-loop μ-loop
+mul-t156 c = let inside = c .before .before .before .before .before .before .before .before .before .before .before .before .before .before .cell-index2 .ensures .inside in search needs
 
 element-set-from-m-8 : tie.Need-element-set-from-m-8 Inv-loop μ-loop
 element-set-from-m-8 c = let inside = c .before .before .before .before .before .before .before .before .before .before .before .before .before .before .cell-index2 .ensures .inside in search needs
@@ -139,13 +139,13 @@ part-scan-end c =
 
 part-figures-of-end : tie.Need-part-figures-of-end Inv-loop μ-loop
 part-figures-of-end c =
-    let read = c .before .before .before .before .before .before .before .before .before .before .before .before .before .before .before .before .before .before .before .before .before .before .before .before .before .before .before .before .before .before .before .before in
+    let read = c .before .before .before .before .before .before .before .before .before .before .before .before .before .before .before .before .before .before .before .before .before .before .before .before .before .before .before .before .before .before .before .before .before in
     let head = read .before .before .before .before .before .before .before .before .before .before .before .before in
     record-fits _ _ _ _ (head .loop .inv .5) (read .read-line .ensures)
 
 part-new-cell-end : tie.Need-part-new-cell-end Inv-loop μ-loop
 part-new-cell-end c =
-    let read = c .before .before .before .before .before .before .before .before .before .before .before .before .before .before .before .before .before .before .before .before .before .before .before .before .before .before .before .before .before .before .before .before .before .before .before .before .before .before .before .before .before .before .before .before .before in
+    let read = c .before .before .before .before .before .before .before .before .before .before .before .before .before .before .before .before .before .before .before .before .before .before .before .before .before .before .before .before .before .before .before .before .before .before .before .before .before .before .before .before .before .before .before .before .before .before in
     let head = read .before .before .before .before .before .before .before .before .before .before .before .before in
     record-fits _ _ _ _ (head .loop .inv .5) (read .read-line .ensures)
 
@@ -162,42 +162,42 @@ put-requires c κs =
 
 loop-less : tie.Need-loop-less Inv-loop μ-loop
 loop-less c =
-    let ends = c .before .before .before .before .before .before .before .before .before .before .before .before .before .before .before .before .before .before .before .before .before .before .before .before .before .before .before .before .before .before .before .before .before in
+    let ends = c .before .before .before .before .before .before .before .before .before .before .before .before .before .before .before .before .before .before .before .before .before .before .before .before .before .before .before .before .before .before .before .before .before .before in
     let found = ends .before .before .before .before .before in
     let head = found .before .before .before in
     less-turn _ (head .loop .at) (found .line-end .result) _ (found .line-end .ensures .0) (ends .if2 .taken)
 
 loop-less-2 : tie.Need-loop-less-2 Inv-loop μ-loop
 loop-less-2 c =
-    let ends = c .before .before .before .before .before .before .before .before .before .before .before .before .before .before .before .before .before .before .before .before .before .before .before .before .before .before .before .before .before .before .before .before .before .before .before .before .before .before in
+    let ends = c .before .before .before .before .before .before .before .before .before .before .before .before .before .before .before .before .before .before .before .before .before .before .before .before .before .before .before .before .before .before .before .before .before .before .before .before .before .before .before in
     let found = ends .before .before .before .before .before in
     let head = found .before .before .before in
     less-turn _ (head .loop .at) (found .line-end .result) _ (found .line-end .ensures .0) (ends .if2 .taken)
 
 loop-less-3 : tie.Need-loop-less-3 Inv-loop μ-loop
 loop-less-3 c =
-    let ends = c .before .before .before .before .before .before .before .before .before .before .before .before .before .before .before .before .before .before .before .before .before .before .before .before .before .before .before .before .before .before .before .before .before .before .before .before .before .before .before .before .before .before .before .before .before .before .before .before in
+    let ends = c .before .before .before .before .before .before .before .before .before .before .before .before .before .before .before .before .before .before .before .before .before .before .before .before .before .before .before .before .before .before .before .before .before .before .before .before .before .before .before .before .before .before .before .before .before .before .before .before .before in
     let found = ends .before .before .before .before .before in
     let head = found .before .before .before in
     less-turn _ (head .loop .at) (found .line-end .result) _ (found .line-end .ensures .0) (ends .if2 .taken)
 
 loop-less-4 : tie.Need-loop-less-4 Inv-loop μ-loop
 loop-less-4 c =
-    let ends = c .before .before .before .before .before .before .before .before .before .before .before .before .before .before .before .before .before .before .before .before .before .before .before .before .before .before .before .before .before .before .before .before .before .before .before .before .before .before .before .before .before .before .before .before .before .before .before .before .before .before .before in
+    let ends = c .before .before .before .before .before .before .before .before .before .before .before .before .before .before .before .before .before .before .before .before .before .before .before .before .before .before .before .before .before .before .before .before .before .before .before .before .before .before .before .before .before .before .before .before .before .before .before .before .before .before .before .before in
     let found = ends .before .before .before .before .before in
     let head = found .before .before .before in
     less-turn _ (head .loop .at) (found .line-end .result) _ (found .line-end .ensures .0) (ends .if2 .taken)
 
 loop-less-5 : tie.Need-loop-less-5 Inv-loop μ-loop
 loop-less-5 c =
-    let ends = c .before .before .before .before .before .before .before .before .before .before .before .before .before .before .before .before .before .before .before .before .before .before .before .before .before .before .before .before .before .before .before .before .before .before .before .before .before .before .before .before .before .before .before .before .before .before .before .before .before .before .before in
+    let ends = c .before .before .before .before .before .before .before .before .before .before .before .before .before .before .before .before .before .before .before .before .before .before .before .before .before .before .before .before .before .before .before .before .before .before .before .before .before .before .before .before .before .before .before .before .before .before .before .before .before .before .before .before in
     let found = ends .before .before .before .before .before in
     let head = found .before .before .before in
     less-turn _ (head .loop .at) (found .line-end .result) _ (found .line-end .ensures .0) (ends .if2 .taken)
 
 loop-less-6 : tie.Need-loop-less-6 Inv-loop μ-loop
 loop-less-6 c =
-    let ends = c .before .before .before .before .before .before .before .before .before .before .before .before .before .before .before .before .before .before .before .before .before .before .before .before .before .before .before .before .before .before .before .before .before .before .before .before .before .before .before .before .before .before .before .before .before .before .before .before .before in
+    let ends = c .before .before .before .before .before .before .before .before .before .before .before .before .before .before .before .before .before .before .before .before .before .before .before .before .before .before .before .before .before .before .before .before .before .before .before .before .before .before .before .before .before .before .before .before .before .before .before .before .before .before in
     let found = ends .before .before .before .before .before in
     let head = found .before .before .before in
     less-turn _ (head .loop .at) (found .line-end .result) _ (found .line-end .ensures .0) (ends .if2 .taken)
@@ -205,7 +205,8 @@ loop-less-6 c =
 loop-again : tie.Need-loop-again Inv-loop μ-loop
 unfolding answered withWaiting withCpus withComm effectOf
 loop-again c =
-    let touched = c .before .before .before .before in
+    let kept = c .before .before .before in
+    let touched = kept .before .before in
     let wrote = touched .before .before .before .before in
     let decided = wrote .before .before .before in
     let scanned = decided .before .before .before in
@@ -234,12 +235,13 @@ loop-again c =
     let isNext = sym (ap (λ (x : Effect). effectOf x new (withCpu (d .cpu) p met)) (told .enum-told .given .1)) in
     ended-turn _ _ _ _ _ _ _ _ _ met (l .inv) _ (took .append .result) (took .append .last .0) _ _ _ _ _ _ (found .line-end .ensures .0) (ends .if2 .taken) (took .append .ensures .0) (took .append .ensures .1 .1)
     (read .read-line .ensures) (wrote .put .ensures)
-    (applied d new met p (withCpu (d .cpu) p met) (c .change-words .result) _ (touched .change-cpu .ensures) isNext (c .change-words .ensures) refl ∙ steps)
+    (applied d new met p (withCpu (d .cpu) p met) (withCpu (d .cpu) p met) (c .change-words .result) _ (touched .change-cpu .ensures) (none-cut _ _ (kept .before .if3 .taken)) isNext (c .change-words .ensures) refl ∙ steps)
 
 loop-again-2 : tie.Need-loop-again-2 Inv-loop μ-loop
 unfolding answered withWaiting withCpus withComm
 loop-again-2 c =
-    let touched = c .before .before .before .before .before .before .before .before .before in
+    let kept = c .before .before .before .before .before .before .before .before in
+    let touched = kept .before .before in
     let wrote = touched .before .before .before .before in
     let decided = wrote .before .before .before in
     let scanned = decided .before .before .before in
@@ -269,15 +271,16 @@ loop-again-2 c =
     let test = held .before in
     let all = test .before in
     let told = all .before .before in
-    let isNext = disable-comes new (withCpu (d .cpu) p met) _ _ _ _ (told .effect .given .1) (sym (all .is-disable .ensures) ∙ test .if3 .taken) (off .disable .ensures ∙ ap disabled (held .with-waiting .ensures)) in
+    let isNext = disable-comes new (withCpu (d .cpu) p met) _ _ _ _ (told .effect .given .1) (sym (all .is-disable .ensures) ∙ test .if4 .taken) (off .disable .ensures ∙ ap disabled (held .with-waiting .ensures)) in
     ended-turn _ _ _ _ _ _ _ _ _ met (l .inv) _ (took .append .result) (took .append .last .0) _ _ _ _ _ _ (found .line-end .ensures .0) (ends .if2 .taken) (took .append .ensures .0) (took .append .ensures .1 .1)
     (read .read-line .ensures) (wrote .put .ensures)
-    (applied d new met p (off .disable .result) (c .change-words2 .result) _ (touched .change-cpu .ensures) isNext (c .change-words2 .ensures) refl ∙ steps)
+    (applied d new met p (withCpu (d .cpu) p met) (off .disable .result) (c .change-words2 .result) _ (touched .change-cpu .ensures) (none-cut _ _ (kept .before .if3 .taken)) isNext (c .change-words2 .ensures) refl ∙ steps)
 
 loop-again-3 : tie.Need-loop-again-3 Inv-loop μ-loop
 unfolding answered withWaiting withCpus withComm partsStored changedCell
 loop-again-3 c =
-    let touched = c .before .before .before .before .before .before .before .before .before .before .before .before .before .before .before .before .before .before .before in
+    let kept = c .before .before .before .before .before .before .before .before .before .before .before .before .before .before .before .before .before .before in
+    let touched = kept .before .before in
     let wrote = touched .before .before .before .before in
     let decided = wrote .before .before .before in
     let scanned = decided .before .before .before in
@@ -314,17 +317,18 @@ loop-again-3 c =
     let told = all .before .before in
     let i = place .cell-index2 .result in
     let isNext = kept-cell (numbers .numbers-after .result) i (words .words-after .result) (cpus .change-cpus .result) (withCpu (d .cpu) p met)
-    ∙ stored-effect met (d .cpu) p _ _ _ i new _ (numbers .numbers-after .result) (words .words-after .result) (cpus .change-cpus .result) _ (cellAt met i) (told .effect .given .1) (sym (all .is-disable .ensures) ∙ test .if3 .left)
+    ∙ stored-effect met (d .cpu) p _ _ _ i new _ (numbers .numbers-after .result) (words .words-after .result) (cpus .change-cpus .result) _ (cellAt met i) (told .effect .given .1) (sym (all .is-disable .ensures) ∙ test .if4 .left)
     (place .cell-index2 .ensures) (sizes .cells) (sizes .words) (figures .figures-of .ensures) (numbers .numbers-after .ensures) (words .words-after .ensures)
     (cpus .change-cpus .ensures) (moved .cell-change .ensures) (as-changed _ _ new _ _ (c .enum-told2 .given .1) refl) in
     ended-turn _ _ _ _ _ _ _ _ _ met (l .inv) _ (took .append .result) (took .append .last .0) _ _ _ _ _ _ (found .line-end .ensures .0) (ends .if2 .taken) (took .append .ensures .0) (took .append .ensures .1 .1)
     (read .read-line .ensures) (wrote .put .ensures)
-    (applied d new met p (partsKept (numbers .numbers-after .result) i (words .words-after .result) (cpus .change-cpus .result) (withCpu (d .cpu) p met)) (changed .change-words3 .result) _ (touched .change-cpu .ensures) isNext (changed .change-words3 .ensures) refl ∙ steps)
+    (applied d new met p (withCpu (d .cpu) p met) (partsKept (numbers .numbers-after .result) i (words .words-after .result) (cpus .change-cpus .result) (withCpu (d .cpu) p met)) (changed .change-words3 .result) _ (touched .change-cpu .ensures) (none-cut _ _ (kept .before .if3 .taken)) isNext (changed .change-words3 .ensures) refl ∙ steps)
 
 loop-again-4 : tie.Need-loop-again-4 Inv-loop μ-loop
 unfolding answered withWaiting withCpus withComm partsStored changedCell
 loop-again-4 c =
-    let touched = c .before .before .before .before .before .before .before .before .before .before .before .before .before .before .before .before .before .before .before .before .before .before in
+    let kept = c .before .before .before .before .before .before .before .before .before .before .before .before .before .before .before .before .before .before .before .before .before in
+    let touched = kept .before .before in
     let wrote = touched .before .before .before .before in
     let decided = wrote .before .before .before in
     let scanned = decided .before .before .before in
@@ -360,17 +364,18 @@ loop-again-4 c =
     let all = test .before in
     let told = all .before .before in
     let i = place .cell-index2 .result in
-    let isNext = stored-effect met (d .cpu) p _ _ _ i new _ (numbers .numbers-after .result) (words .words-after .result) (cpus .change-cpus .result) _ (c .new-cell .result) (told .effect .given .1) (sym (all .is-disable .ensures) ∙ test .if3 .left)
+    let isNext = stored-effect met (d .cpu) p _ _ _ i new _ (numbers .numbers-after .result) (words .words-after .result) (cpus .change-cpus .result) _ (c .new-cell .result) (told .effect .given .1) (sym (all .is-disable .ensures) ∙ test .if4 .left)
     (place .cell-index2 .ensures) (sizes .cells) (sizes .words) (figures .figures-of .ensures) (numbers .numbers-after .ensures) (words .words-after .ensures)
     (cpus .change-cpus .ensures) (moved .cell-change .ensures) (as-changed _ _ new _ _ (c .before .before .before .enum-told3 .given .1) (c .new-cell .ensures)) in
     ended-turn _ _ _ _ _ _ _ _ _ met (l .inv) _ (took .append .result) (took .append .last .0) _ _ _ _ _ _ (found .line-end .ensures .0) (ends .if2 .taken) (took .append .ensures .0) (took .append .ensures .1 .1)
     (read .read-line .ensures) (wrote .put .ensures)
-    (applied d new met p (partsStored (numbers .numbers-after .result) i (c .new-cell .result) (words .words-after .result) (cpus .change-cpus .result) (withCpu (d .cpu) p met)) (changed .change-words3 .result) _ (touched .change-cpu .ensures) isNext (changed .change-words3 .ensures) refl ∙ steps)
+    (applied d new met p (withCpu (d .cpu) p met) (partsStored (numbers .numbers-after .result) i (c .new-cell .result) (words .words-after .result) (cpus .change-cpus .result) (withCpu (d .cpu) p met)) (changed .change-words3 .result) _ (touched .change-cpu .ensures) (none-cut _ _ (kept .before .if3 .taken)) isNext (changed .change-words3 .ensures) refl ∙ steps)
 
 loop-again-5 : tie.Need-loop-again-5 Inv-loop μ-loop
 unfolding answered withWaiting withCpus withComm partsStored changedCell
 loop-again-5 c =
-    let touched = c .before .before .before .before .before .before .before .before .before .before .before .before .before .before .before .before .before .before .before .before .before .before in
+    let kept = c .before .before .before .before .before .before .before .before .before .before .before .before .before .before .before .before .before .before .before .before .before in
+    let touched = kept .before .before in
     let wrote = touched .before .before .before .before in
     let decided = wrote .before .before .before in
     let scanned = decided .before .before .before in
@@ -406,17 +411,18 @@ loop-again-5 c =
     let all = test .before in
     let told = all .before .before in
     let i = place .cell-index2 .result in
-    let isNext = stored-effect met (d .cpu) p _ _ _ i new _ (numbers .numbers-after .result) (words .words-after .result) (cpus .change-cpus .result) _ (c .with-phase .result) (told .effect .given .1) (sym (all .is-disable .ensures) ∙ test .if3 .left)
+    let isNext = stored-effect met (d .cpu) p _ _ _ i new _ (numbers .numbers-after .result) (words .words-after .result) (cpus .change-cpus .result) _ (c .with-phase .result) (told .effect .given .1) (sym (all .is-disable .ensures) ∙ test .if4 .left)
     (place .cell-index2 .ensures) (sizes .cells) (sizes .words) (figures .figures-of .ensures) (numbers .numbers-after .ensures) (words .words-after .ensures)
     (cpus .change-cpus .ensures) (moved .cell-change .ensures) (as-changed _ _ new _ _ (c .before .before .before .change .given .1) (c .with-phase .ensures)) in
     ended-turn _ _ _ _ _ _ _ _ _ met (l .inv) _ (took .append .result) (took .append .last .0) _ _ _ _ _ _ (found .line-end .ensures .0) (ends .if2 .taken) (took .append .ensures .0) (took .append .ensures .1 .1)
     (read .read-line .ensures) (wrote .put .ensures)
-    (applied d new met p (partsStored (numbers .numbers-after .result) i (c .with-phase .result) (words .words-after .result) (cpus .change-cpus .result) (withCpu (d .cpu) p met)) (changed .change-words3 .result) _ (touched .change-cpu .ensures) isNext (changed .change-words3 .ensures) refl ∙ steps)
+    (applied d new met p (withCpu (d .cpu) p met) (partsStored (numbers .numbers-after .result) i (c .with-phase .result) (words .words-after .result) (cpus .change-cpus .result) (withCpu (d .cpu) p met)) (changed .change-words3 .result) _ (touched .change-cpu .ensures) (none-cut _ _ (kept .before .if3 .taken)) isNext (changed .change-words3 .ensures) refl ∙ steps)
 
 loop-again-6 : tie.Need-loop-again-6 Inv-loop μ-loop
 unfolding answered withWaiting withCpus withComm partsStored changedCell
 loop-again-6 c =
-    let touched = c .before .before .before .before .before .before .before .before .before .before .before .before .before .before .before .before .before .before .before .before in
+    let kept = c .before .before .before .before .before .before .before .before .before .before .before .before .before .before .before .before .before .before .before in
+    let touched = kept .before .before in
     let wrote = touched .before .before .before .before in
     let decided = wrote .before .before .before in
     let scanned = decided .before .before .before in
@@ -452,15 +458,98 @@ loop-again-6 c =
     let all = test .before in
     let told = all .before .before in
     let i = place .cell-index2 .result in
-    let isNext = stored-effect met (d .cpu) p _ _ _ i new _ (numbers .numbers-after .result) (words .words-after .result) (cpus .change-cpus .result) _ (c .no-cell .result) (told .effect .given .1) (sym (all .is-disable .ensures) ∙ test .if3 .left)
+    let isNext = stored-effect met (d .cpu) p _ _ _ i new _ (numbers .numbers-after .result) (words .words-after .result) (cpus .change-cpus .result) _ (c .no-cell .result) (told .effect .given .1) (sym (all .is-disable .ensures) ∙ test .if4 .left)
     (place .cell-index2 .ensures) (sizes .cells) (sizes .words) (figures .figures-of .ensures) (numbers .numbers-after .ensures) (words .words-after .ensures)
     (cpus .change-cpus .ensures) (moved .cell-change .ensures) (as-changed _ _ new _ _ (c .before .enum-told4 .given .1) (c .no-cell .ensures)) in
     ended-turn _ _ _ _ _ _ _ _ _ met (l .inv) _ (took .append .result) (took .append .last .0) _ _ _ _ _ _ (found .line-end .ensures .0) (ends .if2 .taken) (took .append .ensures .0) (took .append .ensures .1 .1)
     (read .read-line .ensures) (wrote .put .ensures)
-    (applied d new met p (partsStored (numbers .numbers-after .result) i (c .no-cell .result) (words .words-after .result) (cpus .change-cpus .result) (withCpu (d .cpu) p met)) (changed .change-words3 .result) _ (touched .change-cpu .ensures) isNext (changed .change-words3 .ensures) refl ∙ steps)
+    (applied d new met p (withCpu (d .cpu) p met) (partsStored (numbers .numbers-after .result) i (c .no-cell .result) (words .words-after .result) (cpus .change-cpus .result) (withCpu (d .cpu) p met)) (changed .change-words3 .result) _ (touched .change-cpu .ensures) (none-cut _ _ (kept .before .if3 .taken)) isNext (changed .change-words3 .ensures) refl ∙ steps)
+
+mul-failed-words : tie.Need-mul-failed-words Inv-loop μ-loop
+mul-failed-words c = let inside = c .before .if3 .left in search needs
+
+element-copy-out-failed-words : tie.Need-element-copy-out-failed-words Inv-loop μ-loop
+element-copy-out-failed-words c = let inside = c .before .if3 .left in search needs
+
+mul-m-2 : tie.Need-mul-m-2 Inv-loop μ-loop
+mul-m-2 c = let inside = c .before .before .before .if3 .left in search needs
+
+element-set-from-m-9 : tie.Need-element-set-from-m-9 Inv-loop μ-loop
+element-set-from-m-9 c = let inside = c .before .before .before .if3 .left in search needs
+
+mul-change-cpus : tie.Need-mul-change-cpus Inv-loop μ-loop
+mul-change-cpus c = let inside = c .before .before .before .if3 .left in search needs
+
+element-copy-out-change-cpus : tie.Need-element-copy-out-change-cpus Inv-loop μ-loop
+element-copy-out-change-cpus c = let inside = c .before .before .before .if3 .left in search needs
+
+part-carry-out-end : tie.Need-part-carry-out-end Inv-loop μ-loop
+part-carry-out-end c =
+    let read = c .before .before .before .before .before .before .before .before .before .before .before .before .before .before .before .before .before .before .before .before .before .before .before .before .before .before .before .before .before .before .before .before in
+    let head = read .before .before .before .before .before .before .before .before .before .before .before .before in
+    record-fits _ _ _ _ (head .loop .inv .5) (read .read-line .ensures)
+
+mul-change-words-4 : tie.Need-mul-change-words-4 Inv-loop μ-loop
+mul-change-words-4 c = let inside = c .before .before .before .before .before .before .before .before .before .before .before .before .before .before .before .before .decide .ensures .cell in search needs
+
+element-copy-out-change-words-4 : tie.Need-element-copy-out-change-words-4 Inv-loop μ-loop
+element-copy-out-change-words-4 c = let inside = c .before .before .before .before .before .before .before .before .before .before .before .before .before .before .before .before .decide .ensures .cell in search needs
+
+mul-t160 : tie.Need-mul-t160 Inv-loop μ-loop
+mul-t160 c = let inside = c .before .before .before .before .before .before .before .before .before .before .before .before .before .before .before .before .before .before .decide .ensures .cell in search needs
+
+element-set-from-m-10 : tie.Need-element-set-from-m-10 Inv-loop μ-loop
+element-set-from-m-10 c = let inside = c .before .before .before .before .before .before .before .before .before .before .before .before .before .before .before .before .before .before .decide .ensures .cell in search needs
 
 loop-less-7 : tie.Need-loop-less-7 Inv-loop μ-loop
 loop-less-7 c =
+    let ends = c .before .before .before .before .before .before .before .before .before .before .before .before .before .before .before .before .before .before .before .before .before .before .before .before .before .before .before .before .before .before .before .before .before .before .before .before .before .before .before .before in
+    let found = ends .before .before .before .before .before in
+    let head = found .before .before .before in
+    less-turn _ (head .loop .at) (found .line-end .result) _ (found .line-end .ensures .0) (ends .if2 .taken)
+
+loop-again-7 : tie.Need-loop-again-7 Inv-loop μ-loop
+unfolding answered withWaiting withCpus withComm
+loop-again-7 c =
+    let carry = c .before .before in
+    let held = carry .before .before .before in
+    let cpus = held .before in
+    let failed = cpus .before in
+    let test = failed .before .before .before in
+    let touched = test .before in
+    let wrote = touched .before .before .before .before in
+    let decided = wrote .before .before .before in
+    let scanned = decided .before .before .before in
+    let at = scanned .before .before .before .before in
+    let own = at .before in
+    let asked = own .before .before in
+    let cpu = asked .before .before in
+    let read = cpu .before .before .before .before .before .before in
+    let ends = read .before .before .before .before in
+    let took = ends .before .before in
+    let found = took .before .before .before in
+    let turn = found .before in
+    let head = turn .before .before in
+    let l = head .loop in
+    let d = decided .decide .result in
+    let met = withWaiting (l .waiting) (l .m) in
+    let new = cellOf (take (read .read-line .result .len - 0) (read .read-line .last .1 .0)) in
+    let sizes = scanned .scan .ensures in
+    let says = sizes .found met (scan-parts met _ _ _ (cpu .cpu-for .ensures) (at .words-for .ensures) _ (own .cell-index .ensures)) in
+    let back = toZ-ofZ {w = w32} {z = scanned .scan .result} (record { sfits = scanned .scan .ok }) in
+    let steps =
+    decided .decide .ensures .settles _ met
+    (refl, all-parts met _ _ _ (cpu .cpu-for .ensures) (at .words-for .ensures) _ _ _ _ (asked .asked-for .ensures) (sizes .words) (sizes .cpus) back says) in
+    let p = touched .change-cpu .result in
+    let isCut = cut-stored (d .cut) (withCpu (d .cpu) p met) (failed .failed-words .result) (cpus .change-cpus2 .result) (test .if3 .left) (failed .failed-words .ensures) (cpus .change-cpus2 .ensures) in
+    let isNext = carry .carry-out .ensures ∙ ap (effectOf (d .moves .effect) new) (held .with-waiting2 .ensures) in
+    ended-turn _ _ _ _ _ _ _ _ _ met (l .inv) _ (took .append .result) (took .append .last .0) _ _ _ _ _ _ (found .line-end .ensures .0) (ends .if2 .taken) (took .append .ensures .0) (took .append .ensures .1 .1)
+    (read .read-line .ensures) (wrote .put .ensures)
+    (applied d new met p (withCpus (cpus .change-cpus2 .result) (withComm (d .cut) (failed .failed-words .result) (withCpu (d .cpu) p met))) (carry .carry-out .result)
+    (c .change-words4 .result) _ (touched .change-cpu .ensures) isCut isNext (c .change-words4 .ensures) refl ∙ steps)
+
+loop-less-8 : tie.Need-loop-less-8 Inv-loop μ-loop
+loop-less-8 c =
     let took = c .before .before in
     let found = took .before .before .before in
     let turn = found .before in
@@ -469,8 +558,8 @@ loop-less-7 c =
     less-end _ (l .at) (found .line-end .result)
     (may-go (l .at) _ (l .written) (length (l .out)) (turn .before .goes-on .result) (turn .before .goes-on .ensures) (turn .if1 .taken) .0) (c .if2 .left)
 
-loop-again-7 : tie.Need-loop-again-7 Inv-loop μ-loop
-loop-again-7 c =
+loop-again-8 : tie.Need-loop-again-8 Inv-loop μ-loop
+loop-again-8 c =
     let took = c .before .before in
     let found = took .before .before .before in
     let head = found .before .before .before in
@@ -516,7 +605,7 @@ returns c =
       fed =
           ap (λ (b : List ℕ). feed (take (l .at) (a .log .now)) (going (a .kept .machine) b []))
           (sym (kept-bytes (a .kept .line) (a .kept .len) (sized .smaller .result) size (sized .smaller .ensures)))
-          ∙ l .inv .6 ∙ ap (λ (x : Machine). going x (take (l .len) (l .line)) (take (l .written) (l .out))) (sym (c .with-waiting2 .ensures));
+          ∙ l .inv .6 ∙ ap (λ (x : Machine). going x (take (l .len) (l .line)) (take (l .written) (l .out))) (sym (c .with-waiting3 .ensures));
       rest = l .inv .7;
       taken = l .inv .0;
       written = subst (λ (n : ℕ). l .written ≤ n) (l .inv .2) (l .inv .1);
@@ -526,4 +615,4 @@ returns c =
     }
 
 pub run-spec : {M : Type 1} → statement M
-run-spec = tie.close (tie.spec Inv-loop μ-loop (λ c κs. search needs) loop-holds (λ c κs. search needs) (λ c κs. search needs) (λ c. search needs) (λ c. search needs) (λ c. search needs) (λ c. search needs) (λ c κs. search needs) (λ c. search needs) (λ c. search needs) (λ c. search needs) (λ c. search needs) slice-aggregate-read-line (λ c κs. search needs) (λ c κs. search needs) (λ c. search needs) (λ c. search needs) (λ c κs. search needs) (λ c. search needs) (λ c. search needs) (λ c κs. search needs) (λ c κs. search needs) (λ c. search needs) (λ c. search needs) (λ c. search needs) (λ c. search needs) (λ c. search needs) (λ c. search needs) part-scan-end (λ c κs. search needs) (λ c κs. search needs) put-requires mul-change-cpu element-copy-out-change-cpu (λ c κs. search needs) mul-t59 element-set-from-m (λ c. search needs) mul-change-words element-copy-out-change-words (λ c κs. search needs) mul-t95 element-set-from-m-2 loop-less loop-again (λ c. search needs) (λ c κs. search needs) (λ c κs. search needs) (λ c κs. search needs) mul-change-words-2 element-copy-out-change-words-2 (λ c κs. search needs) mul-t105 element-set-from-m-3 loop-less-2 loop-again-2 (λ c κs. search needs) (λ c. search needs) (λ c. search needs) part-figures-of-end (λ c κs. search needs) mul-numbers-after element-copy-out-numbers-after mul-numbers-after-2 element-copy-out-numbers-after-2 (λ c κs. search needs) (λ c κs. search needs) mul-words-after element-copy-out-words-after (λ c κs. search needs) mul-m element-set-from-m-4 mul-change-words-3 element-copy-out-change-words-3 (λ c κs. search needs) mul-t110 element-set-from-m-5 (λ c κs. search needs) (λ c. search needs) loop-less-3 loop-again-3 (λ c. search needs) (λ c. search needs) (λ c. search needs) part-new-cell-end (λ c κs. search needs) mul-t140 element-set-from-m-6 loop-less-4 loop-again-4 (λ c. search needs) mul-with-phase element-copy-out-with-phase (λ c κs. search needs) mul-t148 element-set-from-m-7 loop-less-5 loop-again-5 (λ c. search needs) (λ c κs. search needs) mul-t152 element-set-from-m-8 loop-less-6 loop-again-6 loop-less-7 loop-again-7 (λ c κs. search needs) same-length returns)
+run-spec = tie.close (tie.spec Inv-loop μ-loop (λ c κs. search needs) loop-holds (λ c κs. search needs) (λ c κs. search needs) (λ c. search needs) (λ c. search needs) (λ c. search needs) (λ c. search needs) (λ c κs. search needs) (λ c. search needs) (λ c. search needs) (λ c. search needs) (λ c. search needs) slice-aggregate-read-line (λ c κs. search needs) (λ c κs. search needs) (λ c. search needs) (λ c. search needs) (λ c κs. search needs) (λ c. search needs) (λ c. search needs) (λ c κs. search needs) (λ c κs. search needs) (λ c. search needs) (λ c. search needs) (λ c. search needs) (λ c. search needs) (λ c. search needs) (λ c. search needs) part-scan-end (λ c κs. search needs) (λ c κs. search needs) put-requires mul-change-cpu element-copy-out-change-cpu (λ c κs. search needs) mul-t62 element-set-from-m (λ c. search needs) mul-change-words element-copy-out-change-words (λ c κs. search needs) mul-t99 element-set-from-m-2 loop-less loop-again (λ c. search needs) (λ c κs. search needs) (λ c κs. search needs) (λ c κs. search needs) mul-change-words-2 element-copy-out-change-words-2 (λ c κs. search needs) mul-t109 element-set-from-m-3 loop-less-2 loop-again-2 (λ c κs. search needs) (λ c. search needs) (λ c. search needs) part-figures-of-end (λ c κs. search needs) mul-numbers-after element-copy-out-numbers-after mul-numbers-after-2 element-copy-out-numbers-after-2 (λ c κs. search needs) (λ c κs. search needs) mul-words-after element-copy-out-words-after (λ c κs. search needs) mul-m element-set-from-m-4 mul-change-words-3 element-copy-out-change-words-3 (λ c κs. search needs) mul-t114 element-set-from-m-5 (λ c κs. search needs) (λ c. search needs) loop-less-3 loop-again-3 (λ c. search needs) (λ c. search needs) (λ c. search needs) part-new-cell-end (λ c κs. search needs) mul-t144 element-set-from-m-6 loop-less-4 loop-again-4 (λ c. search needs) mul-with-phase element-copy-out-with-phase (λ c κs. search needs) mul-t152 element-set-from-m-7 loop-less-5 loop-again-5 (λ c. search needs) (λ c κs. search needs) mul-t156 element-set-from-m-8 loop-less-6 loop-again-6 mul-failed-words element-copy-out-failed-words (λ c κs. search needs) mul-m-2 element-set-from-m-9 mul-change-cpus element-copy-out-change-cpus (λ c κs. search needs) (λ c κs. search needs) (λ c. search needs) (λ c. search needs) part-carry-out-end (λ c κs. search needs) mul-change-words-4 element-copy-out-change-words-4 (λ c κs. search needs) mul-t160 element-set-from-m-10 loop-less-7 loop-again-7 loop-less-8 loop-again-8 (λ c κs. search needs) same-length returns)

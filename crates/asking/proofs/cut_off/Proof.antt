@@ -1,0 +1,13 @@
+-- `asking::cut_off` meets its contract: the cell's words, failed, and what is heard from them. Assumes nothing.
+use Rattle.asking.proofs.Laws.{cuts}
+use borrow.Author.Needs.{needs}
+use Rattle.asking.proofs.cut_off.Statement.{statement}
+use Rattle.asking.proofs.cut_off.Tie as tie
+
+returns : tie.Need-returns
+returns c =
+    let entry = c .before .before in
+    cuts _ _ _ _ _ _ _ (entry .pre) (entry .good .1 .0 .1 .0 .1) (c .before .change-words .ensures) (c .hear .ensures)
+
+pub cut-off-spec : {M : Type 1} → statement M
+cut-off-spec = tie.close (tie.spec (λ c κs. search needs) (λ c. search needs) (λ c. search needs) (λ c κs. search needs) returns)
