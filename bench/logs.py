@@ -20,15 +20,16 @@ def region(start, address, size, flags):
     return struct.pack('<QQQQ', start, address, size, flags)
 
 
-def system_record(cpus=(1 << CPUS) - 1, possible=CPUS, pool=POOL, used=POOL_USED):
-    """One boot region below the hypervisor's memory."""
-    head = struct.pack('<3sxHH32sQH6xQQIIIIH6x', b'TSS', 1, 1, b'court', cpus, possible, MEMORY_END, 0x1000000,
+def system_record(cpus=(1 << CPUS) - 1, possible=CPUS, pool=POOL, used=POOL_USED, regions=None, name=b'court'):
+    """One boot region below the hypervisor's memory, unless others are given."""
+    regions = [region(0, 0, MEMORY_END, 7)] if regions is None else regions
+    head = struct.pack('<3sxHH32sQH6xQQIIIIH6x', b'TSS', 1, len(regions), name, cpus, possible, MEMORY_END, 0x1000000,
                        pool, used, REMAP, REMAP_USED, 0x408)
-    return head + region(0, 0, MEMORY_END, 7)
+    return head + b''.join(regions)
 
 
-def cell_record(name, cpus, regions, passive):
-    head = struct.pack('<3sxHH32sQH6x', b'TSC', 1, int(passive), name.encode(), cpus, len(regions))
+def cell_record(name, cpus, regions, passive, version=1, limit=0):
+    head = struct.pack('<3sxHH32sQHH4x', b'TSC', version, int(passive), name.encode(), cpus, len(regions), limit)
     return head + b''.join(regions)
 
 
@@ -252,6 +253,17 @@ def creates(log, lines, live, regions):
         log.gone(cell)
 
 
+def creates_and_starts(log, lines, live, regions):
+    """The last cell is created, started and destroyed; it is passive, so nobody asks it, and the others are suspended and are told nothing."""
+    log.people(live - 1, regions, start=False)
+    cell = visitor(live, regions, passive=True)
+    while len(log.lines) < lines:
+        log.create(cell)
+        log.start(cell)
+        log.call(0, DESTROY, live, 0, 'code 0')
+        log.gone(cell)
+
+
 def starts(log, lines, live, regions):
     """Passive cells are not asked: each start and each set-loadable has its effect at once."""
     log.people(live, regions, passive=True)
@@ -259,6 +271,93 @@ def starts(log, lines, live, regions):
         cell = log.any_cell()
         log.call(0, SET_LOADABLE, cell.number, 0, 'code 0')
         log.start(cell)
+
+
+def unobeyed(log):
+    """A line that is not obeyed while no call waits."""
+    root = log.random.randrange(ROOT_CPUS)
+    line, answer = log.random.choice((
+        ('poll', 'idle'), ('call %d 5 4' % root, 'bad'), ('call 64 5 4 0', 'bad'), ('exit %d 4' % root, 'bad'), ('', 'bad'),
+        ('store %d 1 3' % root, 'denied'), ('store %d 3 0' % ROOT_CPUS, 'denied'), ('create 0 5453430', 'bad')))
+    log.add(line, answer)
+
+
+def meanwhile(log, waited):
+    """What happens while a call waits for a cell that does not reply: polls, queries of that cell, and events of root, which are held."""
+    for _ in range(log.random.randrange(8, 32)):
+        choose = log.random.random()
+        if choose < 0.7:
+            log.poll('wait %d' % waited.number)
+        elif choose < 0.8:
+            log.add('call %d 5 4 0' % log.random.randrange(ROOT_CPUS), 'held')
+        else:
+            log.counter_query(log.random.choice(waited.cpus), log.random.choice(waited.cpus))
+
+
+def active(log):
+    """The cells that are told, rising."""
+    return [log.cells[number] for number in sorted(log.cells) if log.cells[number].state not in (SHUT_DOWN, FAILED)]
+
+
+def waits_or(cells, code):
+    return 'wait %d' % cells[0].number if cells else code
+
+
+def told(log, code):
+    """The cells that are told reply one after the other; the last reply ends the call."""
+    cells = active(log)
+    for place, cell in enumerate(cells):
+        meanwhile(log, cell)
+        log.store(cell, 1, 4)
+        log.poll(waits_or(cells[place + 1:], code))
+
+
+def unlock(log):
+    for cell in log.cells.values():
+        if cell.state == LOCKED:
+            log.store(cell, 2, RUNNING)
+
+
+def replaced(log, cell):
+    """A running cell is destroyed, with its leave, and created and started anew; the other cells are told of both."""
+    unlock(log)
+    log.call(0, DESTROY, cell.number, 0, 'wait %d' % cell.number)
+    meanwhile(log, cell)
+    log.store(cell, 1, 3)
+    log.gone(cell)
+    log.poll(waits_or(active(log), 'code 0'))
+    told(log, 'code 0')
+    log.create(cell, waits_or(active(log), 'code %d' % cell.number))
+    told(log, 'code %d' % cell.number)
+    log.start(cell)
+
+
+def fails(log, cell):
+    """Every CPU of a cell fails; root sees it and starts the cell again."""
+    for cpu in cell.cpus:
+        log.fault(cpu)
+    cell.state = FAILED
+    log.call(0, GET_STATE, cell.number, 0, 'code 2')
+    log.start(cell)
+
+
+def day(log, lines, live, regions):
+    """All that happens on a day: queries, exits and stores mostly, now and then a reload, a cell that fails, and one that is replaced."""
+    log.people(live, regions)
+    while len(log.lines) < lines:
+        choose = log.random.random()
+        if choose < 0.4:
+            log.query()
+        elif choose < 0.7:
+            log.exit(log.random.randrange(ROOT_CPUS + 4 * live), log.random.randrange(4))
+        elif choose < 0.96:
+            log.any_store()
+        elif choose < 0.985:
+            unobeyed(log)
+        elif choose < 0.998:
+            log.random.choice((refused_set_loadable, allowed_set_loadable))(log, log.any_cell())
+        else:
+            log.random.choice((replaced, fails))(log, log.any_cell())
 
 
 def made(kind, lines, live, regions, seed=SEED):

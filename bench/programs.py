@@ -1,0 +1,79 @@
+"""The two programs that the yardstick's benches run: the proved replay program and the yardstick, a replay in ordinary Rust."""
+import array
+import fcntl
+import itertools
+import os
+import shutil
+import subprocess
+import termios
+import time
+
+ROOT = os.path.dirname(os.path.dirname(os.path.abspath(__file__)))
+REPLAY = os.path.join(ROOT, 'target', 'bin', 'replay')
+PACKAGE = os.path.join(ROOT, 'bench', 'yardstick')
+
+# The change requests that alter what a replay answers, and those of them that the proved program has.
+REQUESTS = ('c12', 'c14', 'c16', 'c17')
+LANDED = ()
+# How many regions a cell may have.
+CELL_REGIONS = 64 if 'c16' in LANDED else 16
+
+
+def build(requests=LANDED, package=PACKAGE):
+    """Builds the yardstick with these requests, and gives its path. Each set of requests has a folder of its own."""
+    target = os.path.join(package, 'target', '-'.join(requests) or 'none')
+    command = ['cargo', 'build', '--release', '--offline', '--quiet', '--no-default-features', '--features', ' '.join(requests), '--target-dir', target]
+    subprocess.run(command, cwd=package, check=True)
+    return os.path.join(target, 'release', 'yardstick')
+
+
+def run(program, folder, stdin, stdout):
+    """Starts a program in a folder that has a system.tss."""
+    return subprocess.Popen([program], cwd=folder, stdin=stdin, stdout=stdout, stderr=subprocess.DEVNULL)
+
+
+def output(program, folder, log, pieces=None):
+    """What a program prints for the bytes of a log, which come at once or in pieces of the given sizes."""
+    with run(program, folder, subprocess.PIPE, subprocess.PIPE) as process:
+        if pieces is None:
+            return process.communicate(log)[0]
+        at = 0
+        for size in pieces:
+            if at < len(log) and process.poll() is None:
+                process.stdin.write(log[at:at + size])
+                process.stdin.flush()
+                at += size
+        return process.communicate(log[at:])[0]
+
+
+def first_difference(found, wanted):
+    """The number of the first line in which two outputs differ, and both lines; boot's answer is line 0."""
+    pairs = itertools.zip_longest(found.split(b'\n'), wanted.split(b'\n'))
+    return next((at, a, b) for at, (a, b) in enumerate(pairs) if a != b)
+
+
+def seconds(program, folder, path):
+    """Elapsed time and CPU time, both in seconds, of a program that reads a file and whose answers nobody reads."""
+    with open(path, 'rb') as log:
+        begin = time.perf_counter()
+        process = run(program, folder, log, subprocess.DEVNULL)
+        _, status, used = os.wait4(process.pid, 0)
+        elapsed = time.perf_counter() - begin
+    process.returncode = os.waitstatus_to_exitcode(status)
+    if process.returncode:
+        raise SystemExit('%s ended with %d' % (program, process.returncode))
+    return elapsed, used.ru_utime + used.ru_stime
+
+
+def peak(program, folder, path):
+    """The most memory, in KiB, that a program had when it had read the whole of a file. It is asked before the program ends: what the system
+    tells of a process that has ended counts the memory of the one that started it."""
+    with run(program, folder, subprocess.PIPE, subprocess.DEVNULL) as process:
+        with open(path, 'rb') as log:
+            shutil.copyfileobj(log, process.stdin, 1 << 20)
+        process.stdin.flush()
+        unread = array.array('i', [1])
+        while unread[0]:
+            fcntl.ioctl(process.stdin, termios.FIONREAD, unread)
+        with open('/proc/%d/status' % process.pid) as status:
+            return int(next(line for line in status if line.startswith('VmHWM')).split()[1])
