@@ -22,8 +22,8 @@ CELL_REGIONS = 64 if 'c16' in LANDED else 16
 def build(requests=LANDED, package=PACKAGE):
     """Builds the yardstick with these requests, and gives its path. Each set of requests has a folder of its own."""
     target = os.path.join(package, 'target', '-'.join(requests) or 'none')
-    command = ['cargo', 'build', '--release', '--offline', '--quiet', '--no-default-features', '--features', ' '.join(requests), '--target-dir', target]
-    subprocess.run(command, cwd=package, check=True)
+    switches = ['--no-default-features', '--features', ' '.join(requests)]
+    subprocess.run(['cargo', 'build', '--release', '--offline', '--quiet', '--target-dir', target] + switches, cwd=package, check=True)
     return os.path.join(target, 'release', 'yardstick')
 
 

@@ -1,14 +1,14 @@
-"""Random system records and logs, made from a seed, for two replays to be held to each other: every event, records with and without damage, many cells, calls that wait,
-replies, denials, locks, faults, lines that are not well formed. What a log is to be answered is not known here."""
+"""Random system records and logs, made from a seed, for two replays to be held to each other: every event, records with and without damage, many
+cells, calls that wait, replies, denials, locks, faults, lines that are not well formed. What a log is to be answered is not known here."""
 import logs
-import scripts
 
 PAGE = 4096
 WINDOW = 0x100
 ROOM = 0x80
 LINES = 400
-READ_ONLY, COMM = 1, 11
-FLAGS = [1, 3, 5, 7, 17, 19, 23, 33, 35] * 6 + [37, 39, 0, 2, 9, 49, 71, 1 << 32 | 1]
+COMM = 11
+FLAGS = [1, 1, 1, 1, 3, 5, 7, 17, 23, 33, 35]
+ODD_FLAGS = FLAGS + [37, 39, 0, 2, 9, 49, 71, 1 << 32 | 1]
 NUMBERS = [0, 1, 2, 3, 4, 5, 7, 8, 15, 16, 63, 64, 255, 256, 257, 1000, 1005, 1006, 2 ** 31, 2 ** 32 - 1, 2 ** 32, 2 ** 32 + 1, 2 ** 63,
            2 ** 64 - 1, 2 ** 64, 2 ** 64 + 1, 10 ** 19, 10 ** 20, 5 * 10 ** 20]
 BYTES = b' 0123456789abcdefx-+\t\r\0\xff'
@@ -53,12 +53,14 @@ def odd_system(random):
     return damaged(random, record) if random.random() < 0.4 else record
 
 
-def region(random, place, base):
-    """A region of a page or two in a window of memory. Those of a record are mostly apart, in physical and in cell addresses."""
-    start = WINDOW + base + (2 * place if random.random() < 0.97 else random.randrange(ROOM))
-    address = 16 * place if random.random() < 0.99 else random.randrange(64)
-    part = [start * PAGE, address * PAGE, random.choice((1, 2)) * PAGE, random.choice(FLAGS) if random.random() < 0.3 else READ_ONLY]
-    if random.random() < 0.01:
+def region(random, place, base, odd=True):
+    """A region of a page or two in a window of memory, apart from those in other places. An odd one may be anywhere and break any rule."""
+    start, address, size = WINDOW + base + 2 * place, 16 * place, random.choice((1, 2))
+    if not odd:
+        return logs.region(start * PAGE, address * PAGE, size * PAGE, random.choice(FLAGS))
+    start = random.choice((start, WINDOW + base + random.randrange(ROOM)))
+    part = [start * PAGE, random.choice((address, random.randrange(64))) * PAGE, size * PAGE, random.choice(ODD_FLAGS)]
+    if random.random() < 0.1:
         part[random.randrange(3)] += random.choice((1, PAGE // 2, logs.MEMORY_END, 2 ** 48 - PAGE, 2 ** 64 - PAGE)) - PAGE
     return logs.region(*(number % 2 ** 64 for number in part))
 
@@ -70,8 +72,8 @@ def comms(random):
 
 
 class Wild:
-    """A log of anything, made while a program answers it: `answered` gives the answer to a line. So it is known which cells there are and who is waited for, and a log
-    comes far. The answers choose lines and are held to nothing here."""
+    """A log of anything, made while a program answers it: `answered` gives the answer to a line. So it is known which cells there are and who is waited
+    for, and a log comes far. The answers choose lines and are held to nothing here."""
 
     def __init__(self, random, record, answered):
         self.random = random
@@ -117,9 +119,10 @@ class Wild:
     def record(self, cpus):
         """A cell record: in its own part of the window mostly, where others are not."""
         random = self.random
-        count = random.choice((0, 0, 1, 1, 2, 3)) if self.chance(94) else random.choice((14, 15, 16, 62, 63, 64))
+        count = random.choice((0, 0, 1, 1, 2, 3)) if self.chance(90) else random.choice((14, 15, 16, 62, 63, 64))
         base = ROOM * random.randrange(random.choice((3, 40, 40)))
-        regions = [region(random, i, base) for i in range(count)] + comms(random)
+        odd = self.chance(25)
+        regions = [region(random, i, base, odd) for i in range(count)] + comms(random)
         random.shuffle(regions)
         passive = self.chance(20) or (len(regions) == count and self.chance(90))
         mask = logs.mask(cpus) if self.chance(98) else random.choice((0, 1 << 63, random.getrandbits(64)))
@@ -246,7 +249,3 @@ def long_lines(random):
         lines += [head + b'00' * (digits // 2) + b'0' * (digits % 2), b'call 0 5 4 0', b'x' * length, b'poll']
     random.shuffle(lines)
     return lines
-
-
-def script_of_random_test():
-    return scripts.Script('crates/random_test/stdin')

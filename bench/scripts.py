@@ -1,11 +1,10 @@
-"""Reads the scripts of the test programs: the file `stdin` of log_test, pages_test, records_test and random_test. README, "How a case is added", and each file's
-head say what their lines are. The logs of a script come out as Log, one for each boot."""
+"""Reads the scripts of the test programs: the file `stdin` of log_test, pages_test, records_test and random_test. README, "How a case is added", and
+each file's head say what their lines are."""
 import os
 import re
 
 import programs
 
-EVENTS = ('call', 'create', 'store', 'fault', 'exit', 'poll')
 QUESTIONS = ('owner', 'touch', 'map', 'word', 'read', 'leaf')
 WORD = re.compile(r'"([^"]*)"|(\S+)')
 WIDTHS = {'b': 1, 'w': 2, 'd': 4, 'q': 8}
@@ -80,8 +79,8 @@ class Log:
 
 
 def logs_of(path):
-    """The logs of a script, and how many of its cases are in none: those before a boot or after a refused one, which the replay program does not answer, and those
-    after a line `counter`, which no log can bring about. Page questions and the like are no events and are passed over."""
+    """The logs of a script, one for each boot, and how many of its cases are in none: those before a boot or after a refused one, which the replay program
+    does not answer, and those after a line `counter`, which no log can bring about. Page questions and the like are no events and are passed over."""
     script, logs, log, left = Script(path), [], None, 0
     for at, line in enumerate(script.lines):
         asked, mark, answer = line.partition(' > ')

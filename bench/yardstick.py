@@ -3,10 +3,10 @@
 
     rt check replay && python3 bench/yardstick.py [--lines N] [--live N,N] [--regions N,N] [--seed N]
 
-Both are optimised builds: `rt check replay` proves, compiles and links target/bin/replay, and cargo builds the yardstick here. Each log is made from the seed with the
-answers that document 01 gives; both programs have to print exactly these before either is timed. Then they take turns, five runs each, and the least time counts. The
-ratio is the proved program's time divided by the yardstick's, once by the clock and once by the CPU time that the system charged, which other work on the machine
-disturbs less. A log of long records has fewer lines, so that it stays below 200 MB.
+Both are optimised builds: `rt check replay` proves, compiles and links target/bin/replay, and cargo builds the yardstick here. Each log is made from the
+seed with the answers that document 01 gives; both programs have to print exactly these before either is timed. Then they take turns, five runs each, and
+the least time counts. The ratio is the proved program's time divided by the yardstick's, once by the clock and once by the CPU time that the system
+charged, which other work on the machine disturbs less. A log of long records has fewer lines, so that it stays below 200 MB.
 """
 import argparse
 import os

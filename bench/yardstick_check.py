@@ -3,9 +3,10 @@
 
     rt check replay && python3 bench/yardstick_check.py [--seed N] [--logs N] [--package DIR]
 
-The logs: the Tuesday log; those of the scripts of log_test and pages_test; the records of records_test; random logs of random_test's templates, and wilder ones; lines around
-every length that matters, logs that come in pieces and end anywhere; random system records. Of the random logs every kind of answer has to have come. The requests that the
-proved program does not have yet are held to the cases of bench/yardstick/requests. bench/yardstick.py compares the logs that it times.
+The logs: the Tuesday log; those of the scripts of log_test and pages_test; the records of records_test; random logs of random_test's templates, and wilder
+ones; lines around every length that matters, logs that come in pieces and end anywhere; random system records. Every kind of answer has to come in the
+random logs. The requests that the proved program does not have yet are held to the cases of bench/yardstick/requests. The logs that bench/yardstick.py times
+are compared there.
 """
 import argparse
 import collections
@@ -20,7 +21,8 @@ import programs
 import random_logs
 import scripts
 
-KINDS = ['code 0', 'code above 0', 'wait', 'done', 'off', 'bad', 'stopped', 'held', 'denied', 'idle'] + ['code -%d' % n for n in (1, 2, 7, 12, 16, 17, 22, 38)]
+WORDS = ['wait', 'done', 'off', 'bad', 'stopped', 'held', 'denied', 'idle']
+KINDS = WORDS + ['code 0', 'code above 0'] + ['code -%d' % n for n in (1, 2, 7, 12, 16, 17, 22, 38)]
 BOOTS = ['boot 0', 'boot -12', 'boot -22', 'boot -34']
 # Fewer answers of a kind say that random logs hardly try it.
 ENOUGH = 20
@@ -62,10 +64,11 @@ class Check:
         self.logs = self.lines = self.wrong = 0
 
     def log(self, name, system, log, wanted=None, pieces=None, program=None):
-        """Runs a log and compares: with the answers that are expected, if any are, and the yardstick with the proved program, unless one program alone is tried."""
+        """Runs a log on both programs, or on one that is given, and compares with what is expected, or else with the proved program."""
         with open(os.path.join(self.folder, 'system.tss'), 'wb') as f:
             f.write(system)
-        outputs = [programs.output(p, self.folder, log, pieces) for p in ([program] if program else [self.proved, self.yardstick])]
+        both = [program] if program else [self.proved, self.yardstick]
+        outputs = [programs.output(each, self.folder, log, pieces) for each in both]
         self.logs += 1
         self.lines += outputs[0].count(b'\n') - 1
         self.seen.update(kind_of(answer) for answer in outputs[0].decode('latin-1').split('\n'))
@@ -80,9 +83,11 @@ class Check:
     def part(self, name, needed=()):
         """Ends a part: says how much was compared, and that each needed kind of answer came often enough."""
         rare = [kind for kind in needed if self.seen[kind] < ENOUGH]
-        self.wrong += len(rare)
-        print('%s: %d logs, %d lines; %d differ%s' % (name, self.logs, self.lines, self.wrong, ', too rare: ' + ', '.join(rare) if rare else ''), flush=True)
-        wrong, self.seen, self.logs, self.lines, self.wrong = self.wrong, collections.Counter(), 0, 0, 0
+        said = ', too rare: ' + ', '.join(rare) if rare else ''
+        print('%s: %d logs, %d lines; %d differ%s' % (name, self.logs, self.lines, self.wrong, said), flush=True)
+        wrong = self.wrong + len(rare)
+        self.seen = collections.Counter()
+        self.logs = self.lines = self.wrong = 0
         return wrong
 
 
@@ -110,7 +115,7 @@ def script(check, path, program=None):
 
 
 def records(check):
-    """System records are booted. Cell records are created: where the reader refuses one, Create gives its code."""
+    """System records are booted. Cell records are created, in the system that was started last: where the reader refuses one, Create gives its code."""
     lines, answers, started = [], [], b''
     cases = list(scripts.record_cases('crates/records_test/stdin')) + [('system', 'end', b'', -22, True)]
     for reader, label, record, code, start in cases:
@@ -128,7 +133,7 @@ def records(check):
 
 
 def thrown(check, seed, count):
-    templates = random_logs.script_of_random_test()
+    templates = scripts.Script('crates/random_test/stdin')
     for i in range(count):
         log = random_logs.Thrown(random.Random('%d thrown %d' % (seed, i)), templates)
         check.log('thrown %d' % i, log.system, joined(log.made()))
