@@ -32,17 +32,16 @@ def run(program, folder, stdin, stdout):
     return subprocess.Popen([program], cwd=folder, stdin=stdin, stdout=stdout, stderr=subprocess.DEVNULL)
 
 
-def output(program, folder, log, pieces=None):
-    """What a program prints for the bytes of a log, which come at once or in pieces of the given sizes."""
+def output(program, folder, log, pieces=()):
+    """What a program prints for the bytes of a log, which come in pieces of these sizes, and what is left of them at once."""
     with run(program, folder, subprocess.PIPE, subprocess.PIPE) as process:
-        if pieces is None:
-            return process.communicate(log)[0]
         at = 0
-        for size in pieces:
-            if at < len(log) and process.poll() is None:
-                process.stdin.write(log[at:at + size])
-                process.stdin.flush()
-                at += size
+        try:
+            for size in pieces:
+                at += os.write(process.stdin.fileno(), log[at:at + size])
+        except BrokenPipeError:
+            # It has ended before the log has.
+            pass
         return process.communicate(log[at:])[0]
 
 

@@ -63,7 +63,7 @@ class Check:
         self.seen = collections.Counter()
         self.logs = self.lines = self.wrong = 0
 
-    def log(self, name, system, log, wanted=None, pieces=None, program=None):
+    def log(self, name, system, log, wanted=None, pieces=(), program=None):
         """Runs a log on both programs, or on one that is given, and compares with what is expected, or else with the proved program."""
         with open(os.path.join(self.folder, 'system.tss'), 'wb') as f:
             f.write(system)
@@ -163,7 +163,7 @@ def cut(check, seed, count):
         log = joined(random_logs.long_lines(dice) + lines)
         log = log[:dice.choice((len(log), dice.randrange(len(log))))]
         sizes = [dice.choice((1, 7, 64, 1400, 4400, 65535, 65536)) for _ in range(200)]
-        check.log('cut %d' % i, system, log, pieces=dice.choice((None, sizes)))
+        check.log('cut %d' % i, system, log, pieces=dice.choice(((), sizes)))
     for log in (b'', b'\n', b'poll', b'poll\n\n', b'\0', b'\n' * 70000, b'poll\n' * 30000 + b'pol'):
         check.log('short %r' % log[:9], logs.system_record(), log)
     return check.part('long lines, logs in pieces and cut anywhere')
