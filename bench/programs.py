@@ -12,18 +12,11 @@ ROOT = os.path.dirname(os.path.dirname(os.path.abspath(__file__)))
 REPLAY = os.path.join(ROOT, 'target', 'bin', 'replay')
 PACKAGE = os.path.join(ROOT, 'bench', 'yardstick')
 
-# The change requests that alter what a replay answers, and those of them that the proved program has.
-REQUESTS = ('c12', 'c14', 'c16', 'c17')
-LANDED = ()
-# How many regions a cell may have.
-CELL_REGIONS = 64 if 'c16' in LANDED else 16
 
-
-def build(requests=LANDED, package=PACKAGE):
-    """Builds the yardstick with these requests, and gives its path. Each set of requests has a folder of its own."""
-    target = os.path.join(package, 'target', '-'.join(requests) or 'none')
-    switches = ['--no-default-features', '--features', ' '.join(requests)]
-    subprocess.run(['cargo', 'build', '--release', '--offline', '--quiet', '--target-dir', target] + switches, cwd=package, check=True)
+def build(package=PACKAGE):
+    """Builds the yardstick, and gives its path."""
+    target = os.path.join(package, 'target')
+    subprocess.run(['cargo', 'build', '--release', '--offline', '--quiet', '--target-dir', target], cwd=package, check=True)
     return os.path.join(target, 'release', 'yardstick')
 
 

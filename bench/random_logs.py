@@ -21,7 +21,7 @@ def damaged(random, record):
         if record and random.random() < 0.8:
             record[random.randrange(min(len(record), random.choice((60, 100, 3000))))] = random.choice((0, 1, 2, 16, 128, 255, random.randrange(256)))
         else:
-            length = random.choice((0, len(record) - 1, len(record) + 1, len(record) + 32, 568, 569, 600, 2104, 2105, random.randrange(2200)))
+            length = random.choice((0, len(record) - 1, len(record) + 1, len(record) + 32, 568, 600, 2104, 2105, 2136, random.randrange(2200)))
             record = record[:max(length, 0)].ljust(length, b'\0')
     return bytes(record)
 
@@ -126,7 +126,7 @@ class Wild:
         random.shuffle(regions)
         passive = self.chance(20) or (len(regions) == count and self.chance(90))
         mask = logs.mask(cpus) if self.chance(98) else random.choice((0, 1 << 63, random.getrandbits(64)))
-        version, limit = random.choice(((2, 0), (2, 1), (2, 2), (2, 5), (2, 65535), (1, 1), (3, 0))) if self.chance(15) else (1, 0)
+        version, limit = random.choice(((2, 0), (2, 1), (2, 2), (2, 5), (2, 65535), (1, 1), (3, 0))) if self.chance(40) else (1, 0)
         record = logs.cell_record(random.choice('abcdefghijklmnopqrstuvwxyz'), mask, regions, passive, version, limit)
         return damaged(random, record) if self.chance(5) else record
 

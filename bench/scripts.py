@@ -5,7 +5,7 @@ import re
 
 import programs
 
-QUESTIONS = ('owner', 'touch', 'map', 'word', 'read', 'leaf')
+QUESTIONS = ('owner', 'touch', 'map', 'word', 'read', 'leaf', 'count', 'free')
 WORD = re.compile(r'"([^"]*)"|(\S+)')
 WIDTHS = {'b': 1, 'w': 2, 'd': 4, 'q': 8}
 
@@ -80,7 +80,8 @@ class Log:
 
 def logs_of(path):
     """The logs of a script, one for each boot, and how many of its cases are in none: those before a boot or after a refused one, which the replay program
-    does not answer, and those after a line `counter`, which no log can bring about. Page questions and the like are no events and are passed over."""
+    does not answer, and those after a line `counter`, which no log can bring about. `times N` is N lines. Page questions and the like are no events and
+    are passed over."""
     script, logs, log, left = Script(path), [], None, 0
     for at, line in enumerate(script.lines):
         asked, mark, answer = line.partition(' > ')
@@ -95,7 +96,9 @@ def logs_of(path):
         elif log is None or log.answers[0] != 'boot 0':
             left += 1
         else:
-            log.add(script.expanded(asked), answer)
+            _, times, event = asked.split(' ', 2) if first == 'times' else ('', 1, asked)
+            for _ in range(int(times)):
+                log.add(script.expanded(event), answer)
     return logs, left
 
 

@@ -6,7 +6,7 @@
 Both are optimised builds: `rt check replay` proves, compiles and links target/bin/replay, and cargo builds the yardstick here. Each log is made from the
 seed with the answers that document 01 gives; both programs have to print exactly these before either is timed. Then they take turns, five runs each, and
 the least time counts. The ratio is the proved program's time divided by the yardstick's, once by the clock and once by the CPU time that the system
-charged, which other work on the machine disturbs less. A log of long records has fewer lines, so that it stays below 200 MB.
+charged, which other work on the machine disturbs less. A log of creates has fewer lines where its records are long or meet many regions.
 """
 import argparse
 import os
@@ -17,7 +17,8 @@ import logs
 import programs
 
 RUNS = 5
-LONGEST_LOG = 200 * 10 ** 6
+LONGEST_LOG = 50 * 10 ** 6
+MOST_PAIRS = 10 ** 8
 KINDS = [
     ('queries', logs.queries),
     ('stores', logs.stores),
@@ -27,10 +28,11 @@ KINDS = [
 ]
 
 
-def lines_for(kind, options, regions):
-    """A third of the lines of `creates_and_starts` bring a record in HEX."""
+def lines_for(kind, options, live, regions):
+    """A third of the lines of `creates_and_starts` bring a record in HEX, whose regions are compared with each other and with those of the live cells."""
     record = 2 * (56 + 32 * regions) + 30
-    return min(options.lines, 3 * LONGEST_LOG // record) if kind == logs.creates_and_starts else options.lines
+    few = 3 * min(LONGEST_LOG // record, MOST_PAIRS // (live * regions ** 2))
+    return min(options.lines, few) if kind == logs.creates_and_starts else options.lines
 
 
 def write(folder, log):
@@ -76,7 +78,7 @@ def arguments():
     parser = argparse.ArgumentParser(description='Times the proved replay program against a replay in ordinary Rust.')
     parser.add_argument('--lines', type=int, default=1000000, help='lines of a log (1000000)')
     parser.add_argument('--live', type=numbers, default=[1, 15], help='live cells, at most 15 (1,15)')
-    parser.add_argument('--regions', type=numbers, default=[3, programs.CELL_REGIONS], help='regions of a cell (3,%d)' % programs.CELL_REGIONS)
+    parser.add_argument('--regions', type=numbers, default=[3, 64], help='regions of a cell, at most 64 (3,64)')
     parser.add_argument('--seed', type=int, default=logs.SEED, help='what the logs are made from (%d)' % logs.SEED)
     parser.add_argument('--proved', default=programs.REPLAY, help='the proved program (target/bin/replay)')
     return parser.parse_args()
@@ -93,7 +95,7 @@ def main():
             print('| log | lines | proved, s | Rust, s | ratio | ratio of CPU times | proved, KiB | Rust, KiB |')
             print('|---|---|---|---|---|---|---|---|', flush=True)
             for name, kind in KINDS:
-                row(folder, both, name, logs.made(kind, lines_for(kind, options, regions), live, regions, options.seed))
+                row(folder, both, name, logs.made(kind, lines_for(kind, options, live, regions), live, regions, options.seed))
 
 
 if __name__ == '__main__':

@@ -3,10 +3,9 @@
 
     rt check replay && python3 bench/yardstick_check.py [--seed N] [--logs N] [--package DIR]
 
-The logs: the Tuesday log; those of the scripts of log_test and pages_test; the records of records_test; random logs of random_test's templates, and wilder
-ones; lines around every length that matters, logs that come in pieces and end anywhere; random system records. Every kind of answer has to come in the
-random logs. The requests that the proved program does not have yet are held to the cases of bench/yardstick/requests. The logs that bench/yardstick.py times
-are compared there.
+The logs: those of the samples; those of the scripts of log_test and pages_test; the records of records_test; random logs of random_test's templates, and
+wilder ones; lines around every length that matters, logs that come in pieces and end anywhere; random system records. Every kind of answer has to come in the
+random logs. The logs that bench/yardstick.py times are compared there.
 """
 import argparse
 import collections
@@ -63,12 +62,11 @@ class Check:
         self.seen = collections.Counter()
         self.logs = self.lines = self.wrong = 0
 
-    def log(self, name, system, log, wanted=None, pieces=(), program=None):
-        """Runs a log on both programs, or on one that is given, and compares with what is expected, or else with the proved program."""
+    def log(self, name, system, log, wanted=None, pieces=()):
+        """Runs a log on both programs, and compares with what is expected, or else with the proved program."""
         with open(os.path.join(self.folder, 'system.tss'), 'wb') as f:
             f.write(system)
-        both = [program] if program else [self.proved, self.yardstick]
-        outputs = [programs.output(each, self.folder, log, pieces) for each in both]
+        outputs = [programs.output(program, self.folder, log, pieces) for program in (self.proved, self.yardstick)]
         self.logs += 1
         self.lines += outputs[0].count(b'\n') - 1
         self.seen.update(kind_of(answer) for answer in outputs[0].decode('latin-1').split('\n'))
@@ -100,17 +98,22 @@ def expected(answers):
     return joined(answer.encode() for answer in answers)
 
 
-def tuesday(check):
-    folder = os.path.join(programs.ROOT, 'samples', 'tuesday')
-    files = [open(os.path.join(folder, name), 'rb').read() for name in ('system.tss', 'tuesday.log', 'expected.txt')]
-    check.log('Tuesday', *files)
-    return check.part('the Tuesday log')
+def content(folder, name):
+    with open(os.path.join(folder, name), 'rb') as f:
+        return f.read()
 
 
-def script(check, path, program=None):
+def samples(check):
+    for name in ('tuesday', 'hung'):
+        folder = os.path.join(programs.ROOT, 'samples', name)
+        check.log(name, content(folder, 'system.tss'), content(folder, name + '.log'), content(folder, 'expected.txt'))
+    return check.part('the samples')
+
+
+def script(check, path):
     found, left = scripts.logs_of(path)
     for log in found:
-        check.log(log.name, log.system, joined(log.lines), expected(log.answers), program=program)
+        check.log(log.name, log.system, joined(log.lines), expected(log.answers))
     return check.part('%s (%d cases are in no log)' % (path, left))
 
 
@@ -123,11 +126,15 @@ def records(check):
             check.log(label, record, b'poll\n', b'boot 0\nidle\n' if code == 0 else b'boot %d\n' % code)
         else:
             lines += [b'create 0 ' + record.hex().encode(), b'call 0 4 1 0'] if record else [b'call 0 1 0 0', b'poll']
-            answers.append(code)
+            answers.append((label, code))
         if start:
             check.log('cell records before ' + label, started, joined(lines))
             given = programs.output(check.yardstick, check.folder, joined(lines)).split(b'\n')[1::2]
-            check.wrong += sum(code < 0 and answer != b'code %d' % code for code, answer in zip(answers, given))
+            refused = [(label, b'code %d' % code, answer) for (label, code), answer in zip(answers, given) if code < 0]
+            for label, wanted, answer in refused:
+                if answer != wanted:
+                    check.wrong += 1
+                    print('  %s: %r where %r is expected' % (label, answer, wanted))
             lines, answers, started = [], [], record
     return check.part('crates/records_test/stdin')
 
@@ -192,11 +199,10 @@ def arguments():
 def main():
     options = arguments()
     with tempfile.TemporaryDirectory() as folder:
-        check = Check(options.proved, programs.build(package=options.package), folder)
-        wrong = tuesday(check) + script(check, 'crates/log_test/stdin') + script(check, 'crates/pages_test/stdin') + records(check)
+        check = Check(options.proved, programs.build(options.package), folder)
+        wrong = samples(check) + script(check, 'crates/log_test/stdin') + script(check, 'crates/pages_test/stdin') + records(check)
         wrong += thrown(check, options.seed, options.logs) + wild(check, options.seed, options.logs)
         wrong += cut(check, options.seed, options.logs // 10) + systems(check, options.seed, 5 * options.logs)
-        wrong += script(check, 'bench/yardstick/requests', programs.build(programs.REQUESTS, options.package))
     tested = subprocess.run(['cargo', 'test', '--offline', '--quiet'], cwd=options.package, stdout=subprocess.DEVNULL)
     print('cargo test: %s' % ('failed' if tested.returncode else 'passed'))
     wrong += tested.returncode != 0

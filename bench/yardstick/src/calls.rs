@@ -1,7 +1,7 @@
 //! Calls: queries, Create's table, and what each effect does.
 
 use crate::answer::Answer;
-use crate::limits::{CELL_RECORD, CELLS, STATE_OF_NOBODY};
+use crate::limits::{CELL_RECORD, CELLS};
 use crate::machine::{FAILED, LOCKED, Machine, Phase, ROOT, RUNNING, SHUT_DOWN, STATE, ids, members};
 use crate::regions::SHARED;
 use crate::waiting::Kind;
@@ -42,7 +42,7 @@ impl Machine {
 
     fn get_state(&self, id: u64) -> Result<i32, i32> {
         if !self.is_live(id) {
-            return Err(STATE_OF_NOBODY);
+            return Err(-2);
         }
         if id == ROOT as u64 {
             return Ok(0);

@@ -1,7 +1,7 @@
 //! The cell record.
 
 use crate::bytes::{part, u16_at, u64_at};
-use crate::limits::{CELL_REGIONS, CELL_VERSIONS, SHARED_CODE};
+use crate::limits::CELL_REGIONS;
 use crate::regions::{self, COMM, EXECUTE, LOADABLE, READ, Region, SHARED, WRITE};
 use crate::system_record::System;
 
@@ -14,7 +14,7 @@ pub struct CellRecord {
     pub cpus: u64,
     pub passive: bool,
     pub has_comm: bool,
-    /// After how many polls without a reply the cell is taken for failed; 0 for never (C-14).
+    /// After how many polls without a reply the cell is taken for failed; 0 for never. Version 1 has none.
     pub limit: u16,
     regions: [Region; CELL_REGIONS],
     count: usize,
@@ -75,7 +75,7 @@ impl CellRecord {
         self.passive = flags == PASSIVE;
         self.count = u16_at(head, 48) as usize;
         let ok = head.starts_with(b"TSC")
-            && (1..=CELL_VERSIONS).contains(&version)
+            && (1..=2).contains(&version)
             && flags & !PASSIVE == 0
             && unnamed == 0
             && self.cpus != 0
@@ -84,7 +84,7 @@ impl CellRecord {
     }
 }
 
-/// "read is always set, loadable and shared never together"; comm is exactly 11. C-17: shared memory may not be run.
+/// "read is always set, loadable and shared never together", nor shared and executable; comm is exactly 11.
 fn is_cell_flags(flags: u64) -> bool {
     let has = |both: u64| flags & both == both;
     if flags & COMM != 0 {
@@ -93,7 +93,7 @@ fn is_cell_flags(flags: u64) -> bool {
     flags & READ != 0
         && flags & !(READ | WRITE | EXECUTE | LOADABLE | SHARED) == 0
         && !has(LOADABLE | SHARED)
-        && (SHARED_CODE || !has(SHARED | EXECUTE))
+        && !has(SHARED | EXECUTE)
 }
 
 /// Outside hypervisor memory, and inside a single boot region where it is loadable or shared.

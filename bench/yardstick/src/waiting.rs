@@ -23,7 +23,7 @@ pub struct Waiting {
     target: usize,
     asking: bool,
     cell: usize,
-    /// Polls since the message (C-14).
+    /// Polls since the message, counted where the cell has a limit.
     polls: u16,
 }
 
@@ -45,7 +45,7 @@ impl Machine {
         self.heard(reply)
     }
 
-    /// C-14: "the cell's state becomes 3, its CPUs stop".
+    /// A cell that has not replied in time: "the cell's state becomes 3, its CPUs stop".
     fn cut_off(&mut self, id: usize) {
         let cell = &mut self.cells[id];
         cell.words[STATE] = FAILED;
