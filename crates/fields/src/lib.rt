@@ -3,6 +3,7 @@
 // Every function takes any bytes. A number whose bytes run past the end is read as if zeros stood
 // there.
 ghost use mathlib.Core.Path.{_≡_};
+ghost use Prim.Native.Nat.{_+_, _<_};
 ghost use lib.ListN.{getD, take, length};
 ghost use Rattle.base.specs.Lists.{same, part as part-of};
 ghost use Rattle.fields.specs.Fields.{u16, u32, u64, zeros, leading as leading-of, isName, padded};
@@ -52,7 +53,20 @@ pub fn u32_at(s: &[u8], at: usize) -> u32
     low + 0x1_0000 * high
 }
 
-// The u64 at an offset. Where fewer than its 8 bytes are left it goes byte by byte.
+// The u64 at an offset with fewer than 8 bytes left: the first of them and the rest, byte by byte.
+// It calls itself, so it is never inlined, and `u64_at`, its only caller, stays small.
+fn short_u64(s: &[u8], at: usize) -> u64
+    requires { ⌜ length (now s) < at + 8 ⌝ }
+    ensures { λ r. ⌜ r ≡ u64 at (now (s .entry)) ⌝ }
+{
+    if s.len() <= at {
+        return 0;
+    }
+    let rest = short_u64(s, at + 1) % 0x100_0000_0000_0000;
+    u8_at(s, at) as u64 + 0x100 * rest
+}
+
+// The u64 at an offset.
 pub fn u64_at(s: &[u8], at: usize) -> u64
     ensures { λ r. ⌜ r ≡ u64 at (now (s .entry)) ⌝ }
 {
@@ -60,8 +74,7 @@ pub fn u64_at(s: &[u8], at: usize) -> u64
         return 0;
     }
     if s.len() - at < 8 {
-        let rest = u64_at(s, at + 1) % 0x100_0000_0000_0000;
-        return u8_at(s, at) as u64 + 0x100 * rest;
+        return short_u64(s, at);
     }
     let low = u32_at(s, at) as u64;
     let high = u32_at(s, at + 4) as u64;
