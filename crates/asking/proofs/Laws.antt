@@ -1,7 +1,6 @@
 -- Moves as rules: words that are kept at place 0 stay as they are, and each way that the code takes is the rule's where its test holds.
 -- Assumes nothing.
 use mathlib.Core.Bool.{Bool, true, false, not, _&&_, _||_, true≢false}
-use mathlib.Core.List.{List}
 use mathlib.Core.Path.{_≡_, refl, sym, ap, ap₂, subst, _∙_}
 use mathlib.Core.Logic.{⊎-elim}
 use Prim.Native.Nat.{ℕ, _+_, _^_, _<_, _≤_}
@@ -9,8 +8,8 @@ use native.Mathlib.Omega.{arith}
 use borrow.Author.Tests.{ltb-true, lt-ltb, le-ltb, leb-false, eq-eqb, ne-eqb}
 use lib.Dec.{leb, ltb, eqb}
 use lib.IntN.{ℤ, pos}
-use lib.ListN.{length, set, List·getD-eq-default}
-use lib.Seq.{set-getD, getD-set-same}
+use lib.ListN.{length, List·getD-eq-default}
+use lib.Seq.{set-getD}
 use Rattle.base.specs.Rules.{EPERM}
 use Rattle.base.proofs.Tests.{is-true, holds, and-left, and-right, le-or-lt}
 use Rattle.cell_record.specs.declared.CellConfig.{CellConfig}
@@ -23,21 +22,24 @@ use Rattle.machine_state.specs.declared.Stage.{Stage}
 use Rattle.machine_state.specs.declared.Stepped.{Stepped}
 use Rattle.machine_state.specs.declared.Waiting.{Waiting}
 use Rattle.machine_state.specs.declared.Waiting.the-variants.{NoCall, Pending}
-use Rattle.machine_state.specs.Machine.{pastComm, commIn, maxCells}
-use Rattle.rules.specs.State.{commAt, limitAt, noId, failed, withCpus, withComm, withWaiting, answered}
+use Rattle.machine_state.specs.Machine.{pastComm, maxCells}
+use Rattle.rules.specs.State.{commAt, limitAt, noId, failed, withComm, withWaiting, answered}
 use Rattle.rules.specs.Create.{otherCellLocked}
-use Rattle.rules.specs.Effects.{effect, storeWord, withState, cpusChanged, cellCutOff}
+use Rattle.rules.specs.Effects.{effect, storeWord, withState, cellCutOff}
 use Rattle.rules.specs.Asking.{nextToMessage, asks, tells, everyCell, isDestroy, shutdownRequest, asking, telling, waitFor, finished, endCode, tell, carryOut, noneToAsk, ask, isHeard, consents, hear, isLastPoll, pollsAfter, withPolls, cutsOff, hearsAt, heardAt, stillWaits, pollCell}
 use Rattle.comms.specs.declared.WordsChange.the-variants.{Keep, Store, Message}
 use Rattle.comms.specs.declared.Whom.the-variants.{EveryoneBut}
+use Rattle.comms.specs.declared.CellSets.{CellSets}
 use Rattle.comms.specs.Comms.{wordsOf, wordsAt, among, cellIndex}
+use Rattle.comms.specs.Sets.{setsWithout}
 use Rattle.comms.proofs.Laws.{cell-inside}
 use Rattle.asking.specs.declared.Effect.{Effect}
 use Rattle.asking.specs.declared.Effect.the-variants.{NoEffect, Comes}
 use Rattle.asking.specs.declared.Move.{Move}
 use Rattle.asking.specs.declared.Polled.{Polled}
-use Rattle.asking.specs.Moves.{effectOf, moved, Moves, AnyMachine, Hears, LimitFor, cutOffAt, PollMoves, tellNext}
+use Rattle.asking.specs.Moves.{effectOf, moved, Moves, AnyMachine, WithSets, Hears, pollLooks, LimitFor, cutOffAt, PollMoves, tellNext}
 use Rattle.asking.proofs.Told.{told-after}
+use Rattle.asking.proofs.CutOff.{cut-own, cut-sets}
 
 -- ---- moves
 
@@ -221,31 +223,40 @@ counts kind stage limit polls e = record {
   place = omega arith;
 }
 
--- the cell is cut off: what is decided from its words, failed, is so of the machine without it
-pub cuts : (live : ℕ) (table : List CommRegion) (w changed : CommRegion) (kind : CallKind) (stage : Stage) (mv : Move) → stage .cell < maxCells
-    → length table ≡ maxCells → changed ≡ wordsOf (Store 2 failed) w
-    → Moves (Hears live (set table (stage .cell) changed) changed stage) (hear kind stage) mv
-    → PollMoves (Hears live table w stage) (λ new m. hear kind stage new (cellCutOff (stage .cell) m)) (record { cut = stage .cell; moves = mv })
-unfolding cutOffAt wordsOf storeWord cellCutOff cpusChanged withCpus withComm
-cuts live table w changed kind stage mv inside size e r = record {
+-- the cell is cut off: what is decided from its words, failed, and the sets without it is so of the machine where it is cut off
+pub cuts : (cells others : CellSets) (w changed : CommRegion) (kind : CallKind) (stage : Stage) (mv : Move) → stage .cell < maxCells
+    → changed ≡ wordsOf (Store 2 failed) w → others ≡ setsWithout (stage .cell) cells → Moves (Hears others changed stage) (hear kind stage) mv
+    → PollMoves (Hears cells w stage) (λ new m. hear kind stage new (cellCutOff (stage .cell) m)) (record { cut = stage .cell; moves = mv })
+unfolding cutOffAt wordsOf storeWord
+cuts cells others w changed kind stage mv inside e f r = record {
   moves = λ m new h. ap (λ (b : Bool). moved mv new (elim b [ true ↦ cellCutOff (stage .cell) m | false ↦ m ])) (lt-ltb (stage .cell) maxCells inside)
       ∙ r .moves _ new (on m h);
   place = r .place;
 }
   where
-    same : (m : Machine) → Hears live table w stage m → withState failed (commAt m (stage .cell)) ≡ changed
-    same m h = ap (withState failed) (h .words) ∙ sym e
-
-    on : (m : Machine) → Hears live table w stage m → Hears live (set table (stage .cell) changed) changed stage (cellCutOff (stage .cell) m)
+    on : (m : Machine) → Hears cells w stage m → Hears others changed stage (cellCutOff (stage .cell) m)
     on m h = record {
-      parts = record {
-        ids = h .parts .ids;
-        words = ap (λ (c : CommRegion). set (m .comms) (stage .cell) c) (same m h) ∙ ap (λ (l : List CommRegion). set l (stage .cell) changed) (h .parts .words);
-      };
-      words =
-          getD-set-same (m .comms) (stage .cell) _ pastComm (subst (λ (n : ℕ). stage .cell < n) (sym (ap length (h .parts .words) ∙ size)) inside)
-          ∙ same m h;
+      parts = subst (λ (s : CellSets). WithSets s (cellCutOff (stage .cell) m)) (sym f) (cut-sets (stage .cell) m inside (h .parts .size) cells (h .parts));
+      words = cut-own (stage .cell) m inside (h .parts .size) ∙ ap (withState failed) (h .words) ∙ sym e;
     }
+
+-- a poll that hears the cell, or is the last of its limit, looks at other cells
+module _ (kind : CallKind) (stage : Stage) (w : CommRegion) where
+  pub looks-heard : (flag : Bool) → flag ≡ isHeard w → (ltb (stage .cell) maxCells && flag) ≡ true → pollLooks w (Pending kind stage) ≡ true
+  unfolding pollLooks
+  looks-heard flag f t = ap (λ (b : Bool). b || isLastPoll (w .«reply_limit») (stage .polls)) (sym f ∙ is-true flag (and-right (ltb (stage .cell) maxCells) flag (holds t)))
+
+  pub looks-last : (m : Machine) (limit : ℕ) → limit ≡ limitAt m (stage .cell) → commAt m (stage .cell) ≡ w → isLastPoll limit (stage .polls) ≡ true
+      → pollLooks w (Pending kind stage) ≡ true
+  unfolding pollLooks
+  looks-last m limit e f t =
+      ap (λ (b : Bool). isHeard w || b)
+      (sym (ap (λ (n : ℕ). isLastPoll n (stage .polls)) (e ∙ ap (λ (c : CommRegion). c .«reply_limit») f)) ∙ t)
+      ∙ or-true (isHeard w)
+    where
+      or-true : (b : Bool) → (b || true) ≡ true
+      or-true true = refl
+      or-true false = refl
 
 module _ (kind : CallKind) (stage : Stage) (new : CellConfig) (m : Machine) where
   -- the poll, by whether the cell is heard, and by whether this is its last

@@ -1,7 +1,6 @@
 -- What a call or a poll does once its CPU is counted, as one small value: the answer, the effect that comes, what is done to the words of one
 -- cell, and the call that waits then.
-use mathlib.Core.Bool.{true, false}
-use mathlib.Core.List.{List}
+use mathlib.Core.Bool.{Bool, true, false, _||_}
 use mathlib.Core.Path.{_≡_}
 use Prim.Native.Nat.{ℕ, _≤_, _<_}
 use lib.Dec.{ltb}
@@ -11,13 +10,16 @@ use Rattle.machine_state.specs.declared.CommRegion.{CommRegion}
 use Rattle.machine_state.specs.declared.CallKind.{CallKind}
 use Rattle.machine_state.specs.declared.Stage.{Stage}
 use Rattle.machine_state.specs.declared.Waiting.{Waiting}
+use Rattle.machine_state.specs.declared.Waiting.the-variants.{NoCall, Pending}
 use Rattle.machine_state.specs.declared.Machine.{Machine}
 use Rattle.machine_state.specs.declared.Stepped.{Stepped}
 use Rattle.machine_state.specs.Machine.{maxCells}
 use Rattle.rules.specs.State.{commAt, limitAt, noId, withWaiting, answered}
 use Rattle.rules.specs.Effects.{effect, cellCutOff}
-use Rattle.rules.specs.Asking.{reconfigCompleted, telling, waitFor, finished, endCode}
+use Rattle.rules.specs.Asking.{reconfigCompleted, telling, waitFor, finished, endCode, isHeard, isLastPoll}
+use Rattle.comms.specs.declared.CellSets.{CellSets}
 use Rattle.comms.specs.Comms.{wordsAt, cellIndex}
+use Rattle.comms.specs.Sets.{Sets}
 use Rattle.unobeyed.specs.Admission.{waitedCell}
 use Rattle.asking.specs.declared.Effect.{Effect}
 use Rattle.asking.specs.declared.Effect.the-variants.{NoEffect, Comes}
@@ -37,26 +39,28 @@ pub record Moves (has : Machine → Type 0) (rule : CellConfig → Machine → S
   pub moves : (m : Machine) (new : CellConfig) → has m → moved mv new m ≡ rule new m
   pub place : mv .cell < maxCells
 
--- the machines that a move is decided for: any, those with these live IDs and words, those with this waiting call, too
+-- the machines that a move is decided for: any, or those with these sets of cells
 abbrev pub AnyMachine : Machine → Type 0
 AnyMachine m = Unit {0}
 
-pub record WithWords (live : ℕ) (table : List CommRegion) (m : Machine) : Type 0 where
-  pub ids : m .«live_ids» ≡ live
-  pub words : m .comms ≡ table
-
-pub record Waits (live : ℕ) (table : List CommRegion) (waiting : Waiting) (m : Machine) : Type 0 where
-  pub parts : WithWords live table m
-  pub waits : m .waiting ≡ waiting
+pub record WithSets (cells : CellSets) (m : Machine) : Type 0 where
+  pub sets : Sets cells m
+  pub size : length (m .comms) ≡ maxCells
 
 -- those in which the words of the stage's cell are these
-pub record Hears (live : ℕ) (table : List CommRegion) (w : CommRegion) (stage : Stage) (m : Machine) : Type 0 where
-  pub parts : WithWords live table m
+pub record Hears (cells : CellSets) (w : CommRegion) (stage : Stage) (m : Machine) : Type 0 where
+  pub parts : WithSets cells m
   pub words : commAt m (stage .cell) ≡ w
 
--- those with this waiting call, in which these words stand at the place of the cell waited for
-pub record Polls (live : ℕ) (table : List CommRegion) (w : CommRegion) (waiting : Waiting) (m : Machine) : Type 0 where
-  pub parts : WithWords live table m
+-- a poll looks at other cells where it hears the cell waited for, at whose place these words stand, and where it is the last of its limit
+unfoldable pub pollLooks : CommRegion → Waiting → Bool
+pollLooks w NoCall = false
+pollLooks w (Pending kind stage) = isHeard w || isLastPoll (w .«reply_limit») (stage .polls)
+
+-- those with this waiting call, in which these words stand at the place of the cell waited for; with these sets of cells where the poll looks
+pub record Polls (cells : CellSets) (w : CommRegion) (waiting : Waiting) (m : Machine) : Type 0 where
+  pub sets : pollLooks w waiting ≡ true → Sets cells m
+  pub size : length (m .comms) ≡ maxCells
   pub waits : m .waiting ≡ waiting
   pub words : commAt m (cellIndex (waitedCell waiting)) ≡ w
 

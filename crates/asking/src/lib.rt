@@ -1,5 +1,5 @@
 // Asking cells, telling them, and hearing their replies: what a call that asks, or a poll, does,
-// decided from the live IDs, the words and the waiting call alone.
+// decided from the sets of cells, the words of the cell waited for and the waiting call alone.
 ghost use mathlib.Core.Path.{_≡_};
 ghost use mathlib.Core.Bool.{false};
 ghost use Prim.Native.Nat.{ℕ, _<_};
@@ -7,8 +7,9 @@ ghost use Rattle.rules.specs.State.{limitAt, answered};
 ghost use Rattle.rules.specs.Effects.{cellCutOff};
 ghost use Rattle.rules.specs.Asking.{asks, tells as tells-of, isDestroy, endCode, waitFor, finished, carryOut, noneToAsk, ask as ask-of, hear as hear-of, isLastPoll, pollsAfter, stillWaits, pollCell, poll as poll-of};
 ghost use Rattle.comms.specs.Comms.{among};
-ghost use Rattle.asking.specs.Moves.{effectOf, AnyMachine, WithWords, Hears, Polls, tellNext, Moves, LimitFor, PollMoves};
+ghost use Rattle.asking.specs.Moves.{effectOf, AnyMachine, WithSets, Hears, pollLooks, Polls, tellNext, Moves, LimitFor, PollMoves};
 use base::EPERM;
+use comms::CellSets;
 use comms::Whom;
 use comms::WordsChange;
 use machine_state::Answer;
@@ -124,12 +125,12 @@ fn tells(kind: CallKind) -> bool
 
 // The effect of a call that may go ahead, and what follows it. The cells that are told after it are
 // those that could be told before it, but the target.
-fn carry_out(live_ids: u16, comms: [CommRegion; MAX_CELLS], kind: CallKind, target: usize) -> Move
-    ensures { λ r. ⌜ Moves (WithWords «live_ids» comms) (carryOut kind target) r ⌝ }
+fn carry_out(cells: CellSets, kind: CallKind, target: usize) -> Move
+    ensures { λ r. ⌜ Moves (WithSets cells) (carryOut kind target) r ⌝ }
 {
     let effect = Effect::Comes(kind, target);
     if tells(kind) {
-        let next = comms::next_cell(live_ids, comms, Whom::EveryoneBut(target), 0);
+        let next = comms::next_cell(cells.messageable, Whom::EveryoneBut(target), 0);
         tell_next(kind, target, next, effect)
     } else {
         finish(0, effect)
@@ -150,13 +151,13 @@ pub fn is_destroy(kind: CallKind) -> bool
 }
 
 // What follows when no cell is left to ask: Destroy looks at the locks once more.
-fn none_to_ask(live_ids: u16, comms: [CommRegion; MAX_CELLS], kind: CallKind, target: usize) -> Move
-    ensures { λ r. ⌜ Moves (WithWords «live_ids» comms) (noneToAsk kind target) r ⌝ }
+fn none_to_ask(cells: CellSets, kind: CallKind, target: usize) -> Move
+    ensures { λ r. ⌜ Moves (WithSets cells) (noneToAsk kind target) r ⌝ }
 {
-    if is_destroy(kind) & comms::is_locked_but(live_ids, comms, target) {
+    if is_destroy(kind) & comms::is_locked_but(cells.locked, target) {
         finish(EPERM, Effect::NoEffect)
     } else {
-        carry_out(live_ids, comms, kind, target)
+        carry_out(cells, kind, target)
     }
 }
 
@@ -174,16 +175,10 @@ fn asked(kind: CallKind, target: usize) -> Whom
 }
 
 // Moves on while asking: messages the next cell after `after`, or comes to the effect.
-pub fn ask(
-    live_ids: u16,
-    comms: [CommRegion; MAX_CELLS],
-    kind: CallKind,
-    target: usize,
-    after: usize,
-) -> Move
-    ensures { λ r. ⌜ Moves (WithWords «live_ids» comms) (ask-of kind target after) r ⌝ }
+pub fn ask(cells: CellSets, kind: CallKind, target: usize, after: usize) -> Move
+    ensures { λ r. ⌜ Moves (WithSets cells) (ask-of kind target after) r ⌝ }
 {
-    let next = comms::next_cell(live_ids, comms, asked(kind, target), after);
+    let next = comms::next_cell(cells.messageable, asked(kind, target), after);
     if next < MAX_CELLS {
         let stage = Stage {
             target,
@@ -193,28 +188,22 @@ pub fn ask(
         };
         wait_for(kind, stage, SHUTDOWN_REQUEST, Effect::NoEffect)
     } else {
-        none_to_ask(live_ids, comms, kind, target)
+        none_to_ask(cells, kind, target)
     }
 }
 
 // What the reply of a heard cell, whose words are `w`, leads to.
-fn hear(
-    live_ids: u16,
-    comms: [CommRegion; MAX_CELLS],
-    w: CommRegion,
-    kind: CallKind,
-    stage: Stage,
-) -> Move
-    ensures { λ r. ⌜ Moves (Hears «live_ids» comms w stage) (hear-of kind stage) r ⌝ }
+fn hear(cells: CellSets, w: CommRegion, kind: CallKind, stage: Stage) -> Move
+    ensures { λ r. ⌜ Moves (Hears cells w stage) (hear-of kind stage) r ⌝ }
 {
     let cell = stage.cell;
     let target = stage.target;
     if stage.telling {
-        let next = comms::next_cell(live_ids, comms, Whom::Everyone, cell);
+        let next = comms::next_cell(cells.messageable, Whom::Everyone, cell);
         return tell_next(kind, target, next, Effect::NoEffect);
     }
     if comms::consents(w) {
-        ask(live_ids, comms, kind, target, cell)
+        ask(cells, kind, target, cell)
     } else {
         finish(EPERM, Effect::NoEffect)
     }
@@ -270,35 +259,22 @@ pub struct Polled {
 }
 
 // A poll at which the cell waited for, whose words are `w`, is cut off, and then heard as final.
-fn cut_off(
-    live_ids: u16,
-    comms: [CommRegion; MAX_CELLS],
-    w: CommRegion,
-    kind: CallKind,
-    stage: Stage,
-) -> Polled
+fn cut_off(cells: CellSets, w: CommRegion, kind: CallKind, stage: Stage) -> Polled
     requires { ⌜ stage .cell < 16 ⌝ }
-    ensures { λ r. ⌜ PollMoves (Hears «live_ids» comms w stage) (λ new m. hear-of kind stage new (cellCutOff (stage .cell) m)) r ⌝ }
+    ensures { λ r. ⌜ PollMoves (Hears cells w stage) (λ new m. hear-of kind stage new (cellCutOff (stage .cell) m)) r ⌝ }
 {
     let cell = stage.cell;
     let failed = comms::change_words(w, WordsChange::Store(STATE_WORD, FAILED));
-    let mut table = comms;
-    table[cell] = failed;
+    let others = comms::without_cell(cells, cell);
     Polled {
         cut: cell,
-        moves: hear(live_ids, table, failed, kind, stage),
+        moves: hear(others, failed, kind, stage),
     }
 }
 
 // A poll of a waiting call: looks at the cell waited for, at whose place the words `w` stand.
-fn poll_cell(
-    live_ids: u16,
-    comms: [CommRegion; MAX_CELLS],
-    w: CommRegion,
-    kind: CallKind,
-    stage: Stage,
-) -> Polled
-    ensures { λ r. ⌜ PollMoves (Polls «live_ids» comms w (Waiting.Pending kind stage)) (pollCell kind stage) r ⌝ }
+fn poll_cell(cells: CellSets, w: CommRegion, kind: CallKind, stage: Stage) -> Polled
+    ensures { λ r. ⌜ PollMoves (Polls cells w (Waiting.Pending kind stage)) (pollCell kind stage) r ⌝ }
 {
     let cell = stage.cell;
     let limit = limit_for(cell, w);
@@ -306,11 +282,11 @@ fn poll_cell(
     if (cell < MAX_CELLS) & comms::is_heard(w) {
         return Polled {
             cut: MAX_CELLS,
-            moves: hear(live_ids, comms, w, kind, stage),
+            moves: hear(cells, w, kind, stage),
         };
     }
     if last {
-        return cut_off(live_ids, comms, w, kind, stage);
+        return cut_off(cells, w, kind, stage);
     }
     Polled {
         cut: MAX_CELLS,
@@ -318,20 +294,28 @@ fn poll_cell(
     }
 }
 
-// A poll; at the place of the cell waited for, if one is, the words `w` stand.
-pub fn poll(
-    live_ids: u16,
-    comms: [CommRegion; MAX_CELLS],
-    w: CommRegion,
-    waiting: Waiting,
-) -> Polled
-    ensures { λ r. ⌜ PollMoves (Polls «live_ids» comms w waiting) (poll-of waiting) r ⌝ }
+// Whether a poll looks at other cells than the one waited for, at whose place the words `w` stand.
+pub fn looks(w: CommRegion, waiting: Waiting) -> bool
+    ensures { λ r. ⌜ r ≡ pollLooks w waiting ⌝ }
+{
+    match waiting {
+        Waiting::NoCall => false,
+        Waiting::Pending(_, stage) => {
+            comms::is_heard(w) | is_last_poll(w.reply_limit, stage.polls)
+        }
+    }
+}
+
+// A poll; at the place of the cell waited for, if one is, the words `w` stand. `cells` matter only
+// where the poll looks at them.
+pub fn poll(cells: CellSets, w: CommRegion, waiting: Waiting) -> Polled
+    ensures { λ r. ⌜ PollMoves (Polls cells w waiting) (poll-of waiting) r ⌝ }
 {
     match waiting {
         Waiting::NoCall => Polled {
             cut: MAX_CELLS,
             moves: stay(Answer::Idle, waiting),
         },
-        Waiting::Pending(kind, stage) => poll_cell(live_ids, comms, w, kind, stage),
+        Waiting::Pending(kind, stage) => poll_cell(cells, w, kind, stage),
     }
 }

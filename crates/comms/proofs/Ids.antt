@@ -1,15 +1,18 @@
 -- The set of live IDs with one more and with one less: by the members of each number below 16. Assumes nothing.
-use mathlib.Core.Bool.{Bool, false, not, _&&_, _||_, or-comm, and-comm}
+use mathlib.Core.Bool.{Bool, true, false, not, _&&_, _||_, or-comm, and-comm}
 use mathlib.Core.Path.{_≡_, refl, sym, ap, ap₂, _∙_}
 use Prim.Native.Nat.{ℕ, zero, suc, _+_, _-_, _%_, _^_, _<_, _≤_}
 use native.Mathlib.Decide.{ℕ-discrete}
+use native.Mathlib.Nat.{mod-eq-of-lt}
 use native.Mathlib.Omega.{arith}
 use borrow.Author.Tests.{lt-ltb, eq-eqb, ne-eqb}
 use lib.Bits.{bitOr, or-lt}
 use lib.Dec.{eqb}
 use Rattle.cpu_set.specs.CpuSet.{bit, member, numberOf, union, without}
-use Rattle.cpu_set.proofs.Laws.{low-bits, bit-number, member-or, member-setOf}
+use Rattle.base.proofs.Tests.{fails}
+use Rattle.cpu_set.proofs.Laws.{low-bits, bit-number, member-or, member-setOf, count-less}
 use Rattle.rules.specs.State.{hasId, idsWhere}
+use Rattle.comms.specs.Comms.{idCount}
 use Rattle.rules.specs.Effects.{addId, dropId}
 use Rattle.comms.proofs.Zeros.{complement-bit}
 
@@ -83,3 +86,18 @@ module _ (ids one id : ℕ) (is : (k : ℕ) → k < 64 → member k one ≡ eqb 
       low-bits 16 (without ids one) (λ k. not (eqb k id) && hasId ids k)
       (λ k h. bit-number 64 (λ i. member i ids && not (member i one)) k (omega arith)
       ∙ ap₂ (λ (x y : Bool). x && not y) (member-low ids k h) (is k (omega arith)) ∙ and-comm (hasId ids k) (not (eqb k id)))
+
+-- a set without one of its IDs has fewer
+pub drop-less : (id ids : ℕ) → id < 16 → hasId ids id ≡ true → idCount (dropId id ids) < idCount ids
+unfolding idCount
+drop-less id ids h t =
+    count-less (hasId (dropId id ids)) (hasId ids) 16 (λ k l e. other (not (eqb k id)) (hasId ids k) (sym (has-dropped id ids k l) ∙ e)) id h
+    (has-dropped id ids id h ∙ ap (λ (b : Bool). not b && hasId ids id) (eq-eqb id id refl)) t
+  where
+    other : (a b : Bool) → (a && b) ≡ true → b ≡ true
+    other true b e = e
+    other false b e = absurd (fails (sym e) tt)
+
+-- a set of 16 bits that has no ID is empty
+pub no-ids : (ids : ℕ) → ids < 2 ^ 16 → ((k : ℕ) → k < 16 → hasId ids k ≡ false) → ids ≡ 0
+no-ids ids fits e = sym (mod-eq-of-lt fits) ∙ low-bits 16 ids (λ k. false) (λ k h. sym (has-bit ids k h) ∙ e k h) ∙ none 16

@@ -1,2 +1,3 @@
 pub mod Comms
 pub mod Choice
+pub mod Sets

@@ -1,17 +1,19 @@
 // One cell's communication words, and what is found by looking at the live IDs and the words of
 // all cells.
 ghost use mathlib.Core.Path.{_≡_};
-ghost use Prim.Native.Nat.{ℕ, _<_};
+ghost use mathlib.Core.Bool.{true};
+ghost use Prim.Native.Nat.{ℕ, _^_, _<_};
 ghost use lib.Dec.{eqb};
 ghost use Rattle.cpu_set.specs.CpuSet.{member};
 ghost use Rattle.machine_state.specs.declared.Machine.{Machine};
 ghost use Rattle.machine_state.specs.Machine.{commIn};
-ghost use Rattle.rules.specs.State.{hasId, isFinal, commAt, active};
+ghost use Rattle.rules.specs.State.{hasId, idsWhere, isFinal, commAt, active};
 ghost use Rattle.rules.specs.Create.{freeId, otherCellLocked};
 ghost use Rattle.rules.specs.Effects.{storeWord, addId, dropId};
-ghost use Rattle.rules.specs.Asking.{message as message-of, nextToMessage, isHeard, consents as consents-of};
-ghost use Rattle.comms.specs.Comms.{Index, cellIndex, wordsOf, among as among-of};
+ghost use Rattle.rules.specs.Asking.{message as message-of, mayBeMessaged, nextToMessage, isHeard, consents as consents-of};
+ghost use Rattle.comms.specs.Comms.{Index, Lowest, cellIndex, wordsOf, among as among-of};
 ghost use Rattle.comms.specs.Choice.{choice};
+ghost use Rattle.comms.specs.Sets.{hasLocked, addWhere, setsWithout};
 use machine_state::CommRegion;
 use machine_state::FAILED;
 use machine_state::MAX_CELLS;
@@ -32,6 +34,12 @@ pub enum Whom {
     Nobody,
     Only(usize),
     EveryoneBut(usize),
+}
+
+// The IDs of the cells that may be messaged, and of those that have locked the configuration.
+pub struct CellSets {
+    pub messageable: u16,
+    pub locked: u16,
 }
 
 // The place of cell `id` in the tables; 0 where it has none there.
@@ -102,34 +110,84 @@ fn is_active(live_ids: u16, id: usize, c: CommRegion) -> bool
     !(id == 0) & is_live(live_ids, id as u64) & !is_final(c.cell_state)
 }
 
+// A set of IDs below `id`, with `id` in it where `is_in`.
+fn add_where(is_in: bool, ids: u16, id: usize) -> u16
+    requires { ⌜ (id < 16) × (ids < 2 ^ id) ⌝ }
+    ensures { λ r. ⌜ r ≡ addWhere «is_in» ids id ⌝ }
+{
+    if is_in { ids + (1 << id) } else { ids }
+}
+
+// The IDs of the cells that may be messaged; looked for only where `wanted`, else 0.
+pub fn messageable(wanted: bool, live_ids: u16, comms: [CommRegion; MAX_CELLS]) -> u16
+    ensures { λ r. ⌜ (wanted ≡ true → (m : Machine) → m .«live_ids» ≡ «live_ids» → m .comms ≡ comms → r ≡ idsWhere (mayBeMessaged m)) ⌝ }
+{
+    if !wanted {
+        return 0;
+    }
+    let mut ids = 0;
+    let mut i = 0;
+    while i < MAX_CELLS {
+        let c = comms[i];
+        ids = add_where(is_active(live_ids, i, c) & !c.passive, ids, i);
+        i += 1;
+    }
+    ids
+}
+
+// The IDs of the cells that have locked the configuration; looked for only where `wanted`, else 0.
+pub fn locked(wanted: bool, live_ids: u16, comms: [CommRegion; MAX_CELLS]) -> u16
+    ensures { λ r. ⌜ (wanted ≡ true → (m : Machine) → m .«live_ids» ≡ «live_ids» → m .comms ≡ comms → r ≡ idsWhere (hasLocked m)) ⌝ }
+{
+    if !wanted {
+        return 0;
+    }
+    let mut ids = 0;
+    let mut i = 0;
+    while i < MAX_CELLS {
+        let c = comms[i];
+        let has_locked = c.cell_state == RUNNING_LOCKED;
+        ids = add_where(is_active(live_ids, i, c) & has_locked, ids, i);
+        i += 1;
+    }
+    ids
+}
+
 // The next cell of `whom` after `after` that may be messaged, or 16.
-pub fn next_cell(live_ids: u16, comms: [CommRegion; MAX_CELLS], whom: Whom, after: usize) -> usize
-    ensures { λ r. ⌜ ((m : Machine) → m .«live_ids» ≡ «live_ids» → m .comms ≡ comms → r ≡ nextToMessage (among-of whom) after m) ⌝ }
+pub fn next_cell(messageable: u16, whom: Whom, after: usize) -> usize
+    ensures { λ r. ⌜ ((m : Machine) → messageable ≡ idsWhere (mayBeMessaged m) → r ≡ nextToMessage (among-of whom) after m) ⌝ }
 {
     let mut found = MAX_CELLS;
     let mut i = MAX_CELLS;
     while 1 < i {
         i -= 1;
-        let c = comms[i];
-        let here = is_active(live_ids, i, c) & !c.passive;
+        let here = is_live(messageable, i as u64);
         found = choose((after < i) & is_among(whom, i) & here, i, found);
     }
     found
 }
 
 // Whether an active cell other than `except` has locked the configuration.
-pub fn is_locked_but(live_ids: u16, comms: [CommRegion; MAX_CELLS], except: usize) -> bool
-    ensures { λ r. ⌜ ((m : Machine) → m .«live_ids» ≡ «live_ids» → m .comms ≡ comms → r ≡ otherCellLocked except m) ⌝ }
+pub fn is_locked_but(locked: u16, except: usize) -> bool
+    ensures { λ r. ⌜ ((m : Machine) → locked ≡ idsWhere (hasLocked m) → r ≡ otherCellLocked except m) ⌝ }
 {
     let mut found = false;
     let mut i = MAX_CELLS;
     while 1 < i {
         i -= 1;
-        let c = comms[i];
-        let locked = c.cell_state == RUNNING_LOCKED;
-        found = is_active(live_ids, i, c) & !(i == except) & locked | found;
+        found = is_live(locked, i as u64) & !(i == except) | found;
     }
     found
+}
+
+// The sets without cell `id`.
+pub fn without_cell(cells: CellSets, id: usize) -> CellSets
+    ensures { λ r. ⌜ r ≡ setsWithout id cells ⌝ }
+{
+    CellSets {
+        messageable: drop_id(cells.messageable, id),
+        locked: drop_id(cells.locked, id),
+    }
 }
 
 // The words after a message to the cell: the reply is cleared first.
@@ -184,8 +242,8 @@ pub fn consents(c: CommRegion) -> bool
     is_final(c.cell_state) | (c.reply_from_cell == REQUEST_APPROVED)
 }
 
-// The set of one ID; of none for a number from 64 up.
-fn single(id: usize) -> u64
+// The set of one number below 64; of none for a number from 64 up.
+pub fn single(id: usize) -> u64
     ensures { λ r. ⌜ ((k : ℕ) → k < 64 → member k r ≡ eqb k id) ⌝ }
 {
     if id < 64 { 1 << id } else { 0 }
@@ -203,4 +261,11 @@ pub fn drop_id(live_ids: u16, id: usize) -> u16
     ensures { λ r. ⌜ r ≡ dropId id «live_ids» ⌝ }
 {
     (cpu_set::without(live_ids as u64, single(id)) % 0x1_0000) as u16
+}
+
+// The lowest ID of a set, or 16 where the set is empty.
+pub fn lowest(ids: u16) -> usize
+    ensures { λ r. ⌜ Lowest ids r ⌝ }
+{
+    u16::trailing_zeros(ids) as usize
 }

@@ -14,7 +14,7 @@ use lib.Bits.{bitAnd, bitOr, bitXor, and-shr, or-shr, xor-shr, and-mod, or-mod, 
 use lib.Count.{ones, onesIn, ones-cat}
 use borrow.Author.Tests.{ltb-true, ltb-false}
 use Rattle.base.specs.Lists.{all, upTo}
-use Rattle.base.proofs.Tests.{equal-tests, eq→eqb}
+use Rattle.base.proofs.Tests.{equal-tests, fails, eq→eqb}
 use Rattle.base.proofs.Lists.{upTo-intro, upTo-elim, all-same}
 use Rattle.cpu_set.specs.CpuSet.{bit, member, numberOf, setOf, countBelow, count, isEmpty}
 
@@ -208,3 +208,43 @@ member-setOf p k h = go (ltb k 64) refl
     go : (b : Bool) → ltb k 64 ≡ b → elim b [ true ↦ bit k (setOf p) | false ↦ false ] ≡ p k
     go true e = bit-number 64 p k h
     go false e = absurd (omega (arith, ltb-false k 64 e))
+
+-- at most n numbers below n are picked; and a test that picks some of another's, and not all, picks fewer
+pub count-le : (n : ℕ) (p : ℕ → Bool) → countBelow n p ≤ n
+unfolding countBelow
+count-le zero p = omega arith
+count-le (suc n) p = go (p n) (count-le n p)
+  where
+    go : (b : Bool) → countBelow n p ≤ n → elim b as (λ x. ℕ) [ true ↦ suc (countBelow n p) | false ↦ countBelow n p ] ≤ suc n
+    go true h = omega arith
+    go false h = omega arith
+
+module _ (p q : ℕ → Bool) where
+  step-le : (a b : ℕ) (x y : Bool) → (x ≡ true → y ≡ true) → a ≤ b
+      → elim x as (λ x. ℕ) [ true ↦ suc a | false ↦ a ] ≤ elim y as (λ x. ℕ) [ true ↦ suc b | false ↦ b ]
+  step-le a b true true i h = omega arith
+  step-le a b true false i h = absurd (fails (sym (i refl)) tt)
+  step-le a b false true i h = omega arith
+  step-le a b false false i h = h
+
+  step-lt : (a b : ℕ) (x y : Bool) → (x ≡ true → y ≡ true) → a < b
+      → elim x as (λ x. ℕ) [ true ↦ suc a | false ↦ a ] < elim y as (λ x. ℕ) [ true ↦ suc b | false ↦ b ]
+  step-lt a b true true i h = omega arith
+  step-lt a b true false i h = absurd (fails (sym (i refl)) tt)
+  step-lt a b false true i h = omega arith
+  step-lt a b false false i h = h
+
+  some-le : (n : ℕ) → ((k : ℕ) → k < n → p k ≡ true → q k ≡ true) → countBelow n p ≤ countBelow n q
+  unfolding countBelow
+  some-le zero some = omega arith
+  some-le (suc n) some = step-le _ _ (p n) (q n) (some n (omega arith)) (some-le n (λ i l. some i (omega arith)))
+
+  pub count-less : (n : ℕ) → ((k : ℕ) → k < n → p k ≡ true → q k ≡ true) → (k : ℕ) → k < n → p k ≡ false → q k ≡ true → countBelow n p < countBelow n q
+  unfolding countBelow
+  count-less zero some k h low high = absurd (omega arith)
+  count-less (suc n) some k h low high =
+      go (ℕ-discrete k n) (λ l. count-less n (λ i l. some i (omega arith)) k l low high)
+    where
+      go : Dec (k ≡ n) → (k < n → countBelow n p < countBelow n q) → countBelow (suc n) p < countBelow (suc n) q
+      go (yes e) less = rw (sym (ap p e) ∙ low, sym (ap q e) ∙ high, countBelow) (omega (arith, some-le n (λ i l. some i (omega arith))))
+      go (no e) less = step-lt _ _ (p n) (q n) (some n (omega arith)) (less (omega arith))

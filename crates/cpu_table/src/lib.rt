@@ -4,7 +4,7 @@ ghost use lib.ListN.{set as set-at};
 ghost use Rattle.machine_state.specs.Machine.{cpuIn};
 ghost use Rattle.rules.specs.Effects.{bump as bump-of, countExit, failCpu, startCpu, stopCpu, allFailed, changeIn, changeCpus};
 ghost use Rattle.comms.specs.Comms.{Index};
-ghost use Rattle.cpu_table.specs.CpuTable.{changeOf, cpuIndex};
+ghost use Rattle.cpu_table.specs.CpuTable.{changeOf, cpuIndex, FirstCpu};
 use machine_state::Cpu;
 use machine_state::MAX_CPUS;
 
@@ -122,6 +122,13 @@ pub fn change_cpus(set: u64, how: CpuChange, cpus: [Cpu; MAX_CPUS]) -> [Cpu; MAX
         i += 1;
     }
     next
+}
+
+// A CPU of a set, its lowest; some place of the table where the set is empty.
+pub fn first_cpu(set: u64) -> usize
+    ensures { λ r. ⌜ FirstCpu «set» r ⌝ }
+{
+    (u64::trailing_zeros(set) % 64) as usize
 }
 
 // Whether every CPU in `set` is failed once CPU `also` is.

@@ -6,7 +6,6 @@ use native.Mathlib.Omega.{arith}
 use borrow.Author.Tests.{lt-ltb}
 use mathlib.Core.Bool.{Bool, true, false, not, _&&_, _||_}
 use lib.Dec.{ltb, eqb}
-use lib.ListN.{take}
 use lib.IntN.{ℤ, pos, negsuc}
 use mir.Syntax.{w32}
 use mir.Val.{ofZ}
@@ -17,19 +16,16 @@ use Rattle.base.specs.Rules.{Refusal, firstRule, _⇒_, EPERM, E2BIG, ENOMEM, E
 use Rattle.base.proofs.Rules.{by-rule, by-none}
 use Rattle.cpu_set.specs.CpuSet.{member, subset}
 use Rattle.system_record.specs.declared.SystemConfig.{SystemConfig}
-use Rattle.cell_record.specs.declared.CellConfig.{CellConfig}
-use Rattle.cell_record.specs.CellRecord.{cellOf, cellForm, cellRegions, cellValid}
-use Rattle.machine_state.specs.declared.Cell.{Cell}
+use Rattle.cell_record.specs.CellRecord.{cellOf, cellForm, cellValid}
 use Rattle.machine_state.specs.declared.CallKind.the-variants.{Create}
 use Rattle.machine_state.specs.declared.Machine.{Machine}
 use Rattle.machine_state.specs.declared.Stepped.{Stepped}
-use Rattle.machine_state.specs.Machine.{cellIn}
-use Rattle.rules.specs.State.{hasId, cellIds}
-use Rattle.rules.specs.Create.{someCellLocked, tooLong, invalid, nameInUse, conflicts, regionInUse, busy, freeId, noRoom}
+use Rattle.rules.specs.Create.{someCellLocked, tooLong, invalid, nameInUse, busy, freeId, noRoom}
 use Rattle.rules.specs.Effects.{poolCost}
 use Rattle.rules.specs.Asking.{ask}
 use Rattle.rules.specs.Calls.{createCall, ends}
-use Rattle.machine_state.specs.declared.Answer.the-variants.{Code}
+use Rattle.create_rules.specs.declared.Found.{Found}
+use Rattle.create_rules.specs.Looks.{foundLive}
 use Rattle.create_rules.specs.Rows.{useCode, createCode}
 
 pub no-pages : (pages used count : ℕ) → pages < used + 2 → true ≡ ltb pages (used + poolCost count)
@@ -45,21 +41,15 @@ pub invalid-is : (bytes : List ℕ) (m : Machine) (system : SystemConfig) (cpus 
 unfolding invalid
 invalid-is bytes m system cpus valid inside s c v i = rw (v, i, c, s)
 
-pub live-is : (found live has x : Bool) → found ≡ (live && x) → live ≡ has → found ≡ (has && x)
-live-is found live has x f l = f ∙ ap (λ (b : Bool). b && x) l
+module _ (bytes : List ℕ) (m : Machine) (found : Found) (is : found ≡ foundLive bytes m) where
+  pub name-is : (root : List ℕ) (own : Bool) → m .system .name ≡ root → own ≡ same root (cellOf bytes .name) → nameInUse (cellOf bytes .name) m ≡ (own || found .named)
+  unfolding nameInUse foundLive
+  name-is root own n o = rw n (ap₂ (λ (a b : Bool). a || b) (sym o) (ap (λ (f : Found). f .named) (sym is)))
 
-module _ (m : Machine) (used : ℕ) (cells : List Cell) (ids : m .«live_ids» ≡ used) (table : m .cells ≡ cells) where
-  pub name-is : (root name : List ℕ) (own found : Bool) → m .system .name ≡ root → own ≡ same root name
-      → found ≡ any (λ id. hasId used id && same (cellIn cells id .name) name) cellIds → nameInUse name m ≡ (own || found)
-  unfolding nameInUse
-  name-is root name own found n o f = sym (rw (n, ids, table) (ap₂ (λ (a b : Bool). a || b) o f))
-
-  pub busy-is : (caller : ℕ) (new : CellConfig) (cpus rootCpus : ℕ) (wanted inside found : Bool) → m .«root_cpus» ≡ rootCpus → cpus ≡ new .cpus
-      → wanted ≡ member caller cpus → inside ≡ subset cpus rootCpus
-      → found ≡ any (λ id. hasId used id && conflicts (take (cellIn cells id .«region_count») (cellIn cells id .regions)) (cellRegions new)) cellIds
-      → busy caller new m ≡ (wanted || not inside || found)
-  unfolding busy regionInUse
-  busy-is caller new cpus rootCpus wanted inside found r c w i f = rw (ids, table, r, w, i, f, c)
+  pub busy-is : (caller cpus rootCpus : ℕ) (wanted inside : Bool) → m .«root_cpus» ≡ rootCpus → cpus ≡ cellOf bytes .cpus → wanted ≡ member caller cpus
+      → inside ≡ subset cpus rootCpus → busy caller (cellOf bytes) m ≡ (wanted || not inside || found .held)
+  unfolding busy foundLive
+  busy-is caller cpus rootCpus wanted inside r c w i = rw (is, r, w, i, c)
 
 -- the last row comes where the two before it give 0
 full-row : (named held full : Bool) → (eqb (ofZ w32 (firstRule ((named ⇒ EEXIST) ∷ (held ⇒ EBUSY) ∷ []) (pos 0))) 0 && full) ≡ true
@@ -174,3 +164,28 @@ module _ (caller : ℕ) (bytes : List ℕ) (m : Machine) where
 
     pub code-refuses : (ofZ w32 code ≡ 0 → ⊥) → createCall caller bytes m ≡ ends code m
     code-refuses n = carried-call ∙ ending n asked
+
+-- ---- pairs of two lists
+
+module _ {A B : Type 0} (p : A → B → Bool) where
+  none-of : (xs : List A) → any (λ x. any (p x) []) xs ≡ false
+  unfolding any
+  none-of [] = refl
+  none-of (x ∷ xs) = none-of xs
+
+  one-more : (y : B) (ys : List B) (xs : List A) → any (λ x. any (p x) (y ∷ ys)) xs ≡ (any (λ x. p x y) xs || any (λ x. any (p x) ys) xs)
+  unfolding any
+  one-more y ys [] = refl
+  one-more y ys (x ∷ xs) = ap (λ (b : Bool). (p x y || any (p x) ys) || b) (one-more y ys xs) ∙ shuffle (p x y) (any (p x) ys) _ _
+    where
+      shuffle : (a b c d : Bool) → ((a || b) || (c || d)) ≡ ((a || c) || (b || d))
+      shuffle true b c d = refl
+      shuffle false true true d = refl
+      shuffle false true false d = refl
+      shuffle false false c d = refl
+
+  -- some pair passes, whichever list is looked at first
+  pub any-exchange : (xs : List A) (ys : List B) → any (λ y. any (λ x. p x y) xs) ys ≡ any (λ x. any (p x) ys) xs
+  unfolding any
+  any-exchange xs [] = sym (none-of xs)
+  any-exchange xs (y ∷ ys) = ap (λ (b : Bool). any (λ x. p x y) xs || b) (any-exchange xs ys) ∙ sym (one-more y ys xs)

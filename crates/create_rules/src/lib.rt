@@ -2,24 +2,26 @@
 // have, no room. Each test looks at the parts of the machine that its rule names, and at the new
 // cell's record in its bytes.
 ghost use mathlib.Core.Path.{_≡_};
-ghost use mathlib.Core.Bool.{_&&_};
+ghost use mathlib.Core.Bool.{true};
 ghost use Prim.Native.Nat.{_+_};
 ghost use lib.Dec.{ltb};
 ghost use lib.ListN.{take};
 ghost use Rattle.base.specs.Lists.{any, same};
 ghost use Rattle.cell_record.specs.CellRecord.{cellOf, cellRegions};
 ghost use Rattle.machine_state.specs.declared.Machine.{Machine};
-ghost use Rattle.rules.specs.Create.{conflict as conflict-of, conflicts as conflicts-of, noRoom};
+ghost use Rattle.rules.specs.Create.{conflict as conflict-of, conflicts as conflicts-of, noRoom, someCellLocked};
 ghost use Rattle.rules.specs.Effects.{poolCost};
 ghost use Rattle.create_rules.specs.Rows.{useCode, createCode};
+ghost use Rattle.create_rules.specs.Looks.{nothingFound, lookedAt, foundLive, asksCreate, toLookAt};
 use base::E2BIG;
 use base::EBUSY;
 use base::EEXIST;
 use base::EINVAL;
 use base::ENOMEM;
 use base::EPERM;
+use machine_state::CELL_CREATE;
 use machine_state::Cell;
-use machine_state::CommRegion;
+use machine_state::Event;
 use machine_state::MAX_CELLS;
 use region_table::MAX_REGIONS;
 use regions::MemRegion;
@@ -35,40 +37,33 @@ fn conflict(r: MemRegion, s: MemRegion) -> bool
         & !(regions::is_shared(r) & regions::is_shared(s))
 }
 
-// Whether a region is in conflict with one of the record's.
-fn conflicts_one(r: MemRegion, record: &[u8]) -> bool
-    ensures { λ q. ⌜ q ≡ any (conflict-of r) (cellRegions (cellOf (now («record» .entry)))) ⌝ }
+// Whether one of the first `count` regions of a table is in conflict with a region.
+fn conflicts_one(table: [MemRegion; MAX_REGIONS], count: usize, s: MemRegion) -> bool
+    ensures { λ q. ⌜ q ≡ any (λ r. conflict-of r s) (take count table) ⌝ }
 {
-    let n = cell_record::region_count(record);
+    let n = region_table::used(count, MAX_REGIONS);
     let mut found = false;
-    let mut i = 0u16;
+    let mut i = 0;
     while i < n {
-        found = found | conflict(r, cell_record::region(record, i));
+        found = found | conflict(table[i], s);
         i += 1;
     }
     found
 }
 
-// Whether some region of a cell is in conflict with one of the record's.
+// Whether some region of a cell is in conflict with one of the record's, each of which is read once.
 pub fn meets(c: Cell, record: &[u8]) -> bool
     ensures { λ q. ⌜ q ≡ conflicts-of (take (c .«region_count») (c .regions)) (cellRegions (cellOf (now («record» .entry)))) ⌝ }
 {
     let table = c.regions;
-    let n = region_table::used(c.region_count, MAX_REGIONS);
+    let n = cell_record::region_count(record);
     let mut found = false;
-    let mut i = 0;
+    let mut i = 0u16;
     while i < n {
-        found = found | conflicts_one(table[i], record);
+        found = found | conflicts_one(table, c.region_count, cell_record::region(record, i));
         i += 1;
     }
     found
-}
-
-// The same of a cell that is looked at only where it is live.
-fn live_meets(live: bool, c: Cell, record: &[u8]) -> bool
-    ensures { λ q. ⌜ q ≡ (live && conflicts-of (take (c .«region_count») (c .regions)) (cellRegions (cellOf (now («record» .entry))))) ⌝ }
-{
-    if live { meets(c, record) } else { false }
 }
 
 // Whether a cell has the record's name.
@@ -80,34 +75,84 @@ pub fn has_name(c: Cell, record: &[u8]) -> bool
     fields::same_name(other, name)
 }
 
-// The code where the record's name, or a CPU or a region that it wants, is in use, and 0 where
-// none is. `root` is root's name.
-fn in_use(
-    root: [u8; 32],
-    live_ids: u16,
-    root_cpus: u64,
-    cells: [Cell; MAX_CELLS],
-    caller: u64,
-    record: &[u8],
-) -> i32
-    ensures { λ r. ⌜ ((m : Machine) → m .system .name ≡ root → m .«live_ids» ≡ «live_ids» → m .«root_cpus» ≡ «root_cpus» → m .cells ≡ cells → r ≡ useCode caller (now («record» .entry)) m) ⌝ }
+// What a look at live cells finds: whether one has the record's name, and whether one has a region in
+// conflict with the record's.
+pub struct Found {
+    pub named: bool,
+    pub held: bool,
+}
+
+// Before any look.
+pub fn nothing_found() -> Found
+    ensures { λ r. ⌜ r ≡ nothingFound ⌝ }
 {
-    let mut named = false;
-    let mut held = false;
-    let mut i = MAX_CELLS;
-    while 1 < i {
-        i -= 1;
-        let c = cells[i];
-        let live = comms::is_live(live_ids, i as u64);
-        named = live & has_name(c, record) | named;
-        held = live_meets(live, c, record) | held;
+    Found {
+        named: false,
+        held: false,
     }
+}
+
+// What is found once cell `c` is looked at, too.
+pub fn look(found: Found, c: Cell, record: &[u8]) -> Found
+    ensures { λ r. ⌜ r ≡ lookedAt found c (now («record» .entry)) ⌝ }
+{
+    Found {
+        named: found.named | has_name(c, record),
+        held: found.held | meets(c, record),
+    }
+}
+
+// Whether an event is a call of Create.
+pub fn asks_create(e: Event) -> bool
+    ensures { λ r. ⌜ r ≡ asksCreate e ⌝ }
+{
+    match e {
+        Event::Call(_, code, _, _) => code == CELL_CREATE,
+        Event::Store(_, _, _) => false,
+        Event::Fault(_) => false,
+        Event::Exit(_, _) => false,
+        Event::Poll => false,
+        Event::Malformed => false,
+    }
+}
+
+// The IDs of the cells to look at for an event: for a Create the live ones but root.
+pub fn to_look_at(e: Event, live_ids: u16) -> u16
+    ensures { λ r. ⌜ r ≡ toLookAt e «live_ids» ⌝ }
+{
+    if asks_create(e) {
+        comms::drop_id(live_ids, 0)
+    } else {
+        0
+    }
+}
+
+// What a look at every live cell but root finds, where an event is a Create.
+pub fn look_through(e: Event, live_ids: u16, cells: [Cell; MAX_CELLS], record: &[u8]) -> Found
+    ensures { λ r. ⌜ ((m : Machine) → m .«live_ids» ≡ «live_ids» → m .cells ≡ cells → asksCreate e ≡ true → r ≡ foundLive (now («record» .entry)) m) ⌝ }
+{
+    let mut found = nothing_found();
+    let mut left = to_look_at(e, live_ids);
+    while left != 0 {
+        let i = comms::lowest(left);
+        let c = cells[i];
+        found = look(found, c, record);
+        left = comms::drop_id(left, i);
+    }
+    found
+}
+
+// The code where the record's name, or a CPU or a region that it wants, is in use, and 0 where
+// none is. `root` is root's name, and `found` what a look at all live cells found.
+fn in_use(root: [u8; 32], root_cpus: u64, found: Found, caller: u64, record: &[u8]) -> i32
+    ensures { λ r. ⌜ ((m : Machine) → m .system .name ≡ root → m .«root_cpus» ≡ «root_cpus» → found ≡ foundLive (now («record» .entry)) m → r ≡ useCode caller (now («record» .entry)) m) ⌝ }
+{
     let name = cell_record::name(record);
-    if fields::same_name(root, name) | named {
+    if fields::same_name(root, name) | found.named {
         return EEXIST;
     }
     let cpus = fields::u64_at(record, 40);
-    if cpu_set::contains(cpus, caller) | !cpu_set::is_subset(cpus, root_cpus) | held {
+    if cpu_set::contains(cpus, caller) | !cpu_set::is_subset(cpus, root_cpus) | found.held {
         return EBUSY;
     }
     0
@@ -132,20 +177,21 @@ fn no_room(pages: u32, pool_used: u32, live_ids: u16, record: &[u8]) -> bool
     (comms::free_id(live_ids) == MAX_CELLS) | lacks_pages(pages, pool_used, count)
 }
 
-// The code with which Create is refused, 0 where it is not: its rules in their order.
+// The code with which Create is refused, 0 where it is not: its rules in their order. `locked` says
+// whether some cell has locked the configuration, and `found` what a look at all live cells found.
 pub fn refusal(
     system: SystemConfig,
     pool_used: u32,
     live_ids: u16,
     root_cpus: u64,
-    cells: [Cell; MAX_CELLS],
-    comms: [CommRegion; MAX_CELLS],
+    locked: bool,
+    found: Found,
     caller: u64,
     record: &[u8],
 ) -> i32
-    ensures { λ r. ⌜ ((m : Machine) → m .system ≡ system → m .«pool_used» ≡ «pool_used» → m .«live_ids» ≡ «live_ids» → m .«root_cpus» ≡ «root_cpus» → m .cells ≡ cells → m .comms ≡ comms → r ≡ createCode caller (now («record» .entry)) m) ⌝ }
+    ensures { λ r. ⌜ ((m : Machine) → m .system ≡ system → m .«pool_used» ≡ «pool_used» → m .«live_ids» ≡ «live_ids» → m .«root_cpus» ≡ «root_cpus» → locked ≡ someCellLocked m → found ≡ foundLive (now («record» .entry)) m → r ≡ createCode caller (now («record» .entry)) m) ⌝ }
 {
-    if comms::is_locked_but(live_ids, comms, 0) {
+    if locked {
         return EPERM;
     }
     if cell_record::MAX_LENGTH < record.len() {
@@ -156,7 +202,7 @@ pub fn refusal(
         return EINVAL;
     }
     let root = system.name;
-    let code = in_use(root, live_ids, root_cpus, cells, caller, record);
+    let code = in_use(root, root_cpus, found, caller, record);
     let pool = system.pool;
     if (code == 0) & no_room(pool.pages, pool_used, live_ids, record) {
         return ENOMEM;

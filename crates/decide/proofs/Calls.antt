@@ -31,10 +31,12 @@ use Rattle.rules.specs.Effects.{counted, countExit, callCounter}
 use Rattle.rules.specs.Asking.{ask, isDestroy}
 use Rattle.rules.specs.Calls.{ends, cpuGetInfoCode, cellDestroy, cellGetState, disableCall, createCall, targetCall, callByCode, call}
 use Rattle.asking.specs.declared.Move.{Move}
-use Rattle.asking.specs.Moves.{Moves, WithWords, Waits}
+use Rattle.comms.specs.declared.CellSets.{CellSets}
+use Rattle.comms.proofs.Sets.{same-sets}
+use Rattle.asking.specs.Moves.{Moves, WithSets}
 use Rattle.create_rules.specs.Rows.{createCode}
 use Rattle.create_rules.proofs.Laws.{code-admits, code-refuses}
-use Rattle.decide.specs.Decide.{Calls, Parts}
+use Rattle.decide.specs.Decide.{Calls, Parts, CallParts, Waits}
 
 -- a move by a rule, as a call's
 pub calls-by : {has one : Machine → Type 0} {cpu : ℕ} {bytes : List ℕ} {rule : CellConfig → Machine → Stepped} {of : Machine → Stepped} {mv : Move}
@@ -112,24 +114,24 @@ module _ (cpu a1 a2 : ℕ) (bytes : List ℕ) (m : Machine) where
 
 -- ---- the machine where a call is counted
 
-module _ {boot : ℕ} {pool remap : Pool} {pages ids : ℕ} {table : List CommRegion} {w : Waiting} where
-  pub counted-parts : (cpu : ℕ) (m : Machine) → Parts boot pool remap pages ids table w m → Parts boot pool remap pages ids table w (counted callCounter cpu m)
+pub counted-parts : {boot : ℕ} {pool remap : Pool} {pages ids : ℕ} {w : Waiting} (cpu : ℕ) (m : Machine) → Parts boot pool remap pages ids w m
+    → Parts boot pool remap pages ids w (counted callCounter cpu m)
+unfolding counted withCpus
+counted-parts cpu m h = record { boot = h .boot; pool = h .pool; remap = h .remap; used = h .used; ids = h .ids; waits = h .waits }
+
+-- with the sets of cells, of a code that looks at them
+module _ {boot : ℕ} {pool remap : Pool} {pages ids : ℕ} {cells : CellSets} {w : Waiting} {cpu code a1 : ℕ} {bytes : List ℕ} {p : Cpu} {own : CommRegion}
+    {q : Cpu} {scan : ℤ} {m : Machine} (known : ℕ) (looks : leb known cellDestroy ≡ true) (is : code ≡ known)
+    (h : CallParts boot pool remap pages ids cells w cpu code a1 bytes p own q scan m) where
+  pub with-sets : WithSets cells (counted callCounter cpu m)
   unfolding counted withCpus
-  counted-parts cpu m h = record {
-    boot = h .boot;
-    pool = h .pool;
-    remap = h .remap;
-    used = h .used;
-    ids = h .ids;
-    words = h .words;
-    waits = h .waits;
+  with-sets = record {
+    sets = same-sets cells m (counted callCounter cpu m) refl refl (h .sets (ap (λ (k : ℕ). leb k cellDestroy) is ∙ looks));
+    size = h .table;
   }
 
-  pub with-words : (m : Machine) → Parts boot pool remap pages ids table w m → WithWords ids table m
-  with-words m h = record { ids = h .ids; words = h .words }
-
-  pub with-waiting : (m : Machine) → Parts boot pool remap pages ids table w m → Waits ids table w m
-  with-waiting m h = record { parts = with-words m h; waits = h .waits }
+  pub with-waiting : Waits ids cells w (counted callCounter cpu m)
+  with-waiting = let next = counted-parts cpu m (h .parts) in record { ids = next .ids; parts = with-sets; waits = next .waits }
 
 module _ (cpu : ℕ) (m : Machine) where
   abbrev owner : Cpu → ℕ

@@ -25,6 +25,7 @@ use Rattle.rules.specs.Step.{obeyed, step}
 use Rattle.cpu_table.specs.declared.CpuChange.the-variants as CpuChange
 use Rattle.cpu_table.specs.CpuTable.{changeOf, touched}
 use Rattle.cpu_table.proofs.Laws.{cpu-inside}
+use Rattle.comms.specs.declared.CellSets.{CellSets}
 use Rattle.comms.specs.Comms.{cellIndex}
 use Rattle.asking.specs.declared.Move.{Move}
 use Rattle.asking.specs.declared.Polled.{Polled}
@@ -33,17 +34,16 @@ use Rattle.unobeyed.specs.declared.Admission.{Admission}
 use Rattle.unobeyed.specs.declared.Admission.the-variants.{Admitted, Refused}
 use Rattle.unobeyed.specs.Admission.{cpuFor, askedFor, waitedCell, cellFor, Looks, admitted, Follows, Placed}
 use Rattle.decide.specs.declared.Decision.{Decision}
-use Rattle.decide.specs.Decide.{settled, Settles, scanOf, AllParts, CallParts, Faulty, Calls}
+use Rattle.decide.specs.Decide.{settled, Settles, scanOf, eventLooks, AllParts, CallParts, Faulty, Calls}
 use Rattle.decide.proofs.Laws.{kept-cpu}
-use Rattle.decide.proofs.Calls.{with-words}
 
 -- the event that an arm knows
-pub at-event : {boot : ℕ} {pool remap : Pool} {pages ids : ℕ} {table : List CommRegion} {call : Waiting} {p : Cpu} {w : CommRegion} {q : Cpu} {scan : ℤ}
+pub at-event : {boot : ℕ} {pool remap : Pool} {pages ids : ℕ} {cells : CellSets} {call : Waiting} {p : Cpu} {w : CommRegion} {q : Cpu} {scan : ℤ}
     {d : Decision} {e known : Event} (bytes : List ℕ) → e ≡ known
-    → Settles (AllParts boot pool remap pages ids table call known bytes p w q scan) (cellOf bytes) (obeyed known bytes) d
-    → Settles (AllParts boot pool remap pages ids table call e bytes p w q scan) (cellOf bytes) (obeyed e bytes) d
-at-event {boot} {pool} {remap} {pages} {ids} {table} {call} {p} {w} {q} {scan} {d} bytes s r =
-    subst (λ (x : Event). Settles (AllParts boot pool remap pages ids table call x bytes p w q scan) (cellOf bytes) (obeyed x bytes) d) (sym s) r
+    → Settles (AllParts boot pool remap pages ids cells call known bytes p w q scan) (cellOf bytes) (obeyed known bytes) d
+    → Settles (AllParts boot pool remap pages ids cells call e bytes p w q scan) (cellOf bytes) (obeyed e bytes) d
+at-event {boot} {pool} {remap} {pages} {ids} {cells} {call} {p} {w} {q} {scan} {d} bytes s r =
+    subst (λ (x : Event). Settles (AllParts boot pool remap pages ids cells call x bytes p w q scan) (cellOf bytes) (obeyed x bytes) d) (sym s) r
 
 pub places : {e known : Event} (p : Cpu) → e ≡ known → Placed p e → Placed p known
 places p q h = subst (λ (x : Event). Placed p x) q h
@@ -59,14 +59,16 @@ pub own-cpu : {p : Cpu} {w : CommRegion} (m : Machine) (cpu word value : ℕ) �
 unfolding cpuFor
 own-cpu m cpu word value h l = ap (cpuAt m) (sym (cpu-inside cpu h)) ∙ l .cpu
 
-module _ {boot : ℕ} {pool remap : Pool} {pages ids : ℕ} {table : List CommRegion} {call : Waiting} {bytes : List ℕ} {p : Cpu} {w : CommRegion} {q : Cpu}
+module _ {boot : ℕ} {pool remap : Pool} {pages ids : ℕ} {cells : CellSets} {call : Waiting} {bytes : List ℕ} {p : Cpu} {w : CommRegion} {q : Cpu}
     {scan : ℤ} (m : Machine) where
   -- of a call: what it shows, with its caller's CPU
-  pub call-parts : (cpu code a1 a2 : ℕ) → cpu < maxCpus → AllParts boot pool remap pages ids table call (Call cpu code a1 a2) bytes p w q scan m
-      → CallParts boot pool remap pages ids table call cpu code a1 bytes p w q scan m
-  unfolding cpuFor askedFor cellFor scanOf
+  pub call-parts : (cpu code a1 a2 : ℕ) → cpu < maxCpus → AllParts boot pool remap pages ids cells call (Call cpu code a1 a2) bytes p w q scan m
+      → CallParts boot pool remap pages ids cells call cpu code a1 bytes p w q scan m
+  unfolding cpuFor askedFor cellFor scanOf eventLooks
   call-parts cpu code a1 a2 h a = record {
     parts = a .parts;
+    sets = a .sets;
+    table = a .shows .looks .table;
     caller = ap (cpuAt m) (sym (cpu-inside cpu h)) ∙ a .shows .looks .cpu;
     words = a .shows .looks .words;
     asked = a .shows .asked;
@@ -75,7 +77,7 @@ module _ {boot : ℕ} {pool remap : Pool} {pages ids : ℕ} {table : List CommRe
   }
 
   -- of a fault: the CPU, and what the scan found
-  pub faulty : (cpu : ℕ) → cpu < maxCpus → AllParts boot pool remap pages ids table call (Fault cpu) bytes p w q scan m → Faulty scan p call cpu m
+  pub faulty : (cpu : ℕ) → cpu < maxCpus → AllParts boot pool remap pages ids cells call (Fault cpu) bytes p w q scan m → Faulty scan p call cpu m
   unfolding cpuFor scanOf
   faulty cpu h a = record {
     own = ap (cpuAt m) (sym (cpu-inside cpu h)) ∙ a .shows .looks .cpu;
@@ -85,17 +87,18 @@ module _ {boot : ℕ} {pool remap : Pool} {pages ids : ℕ} {table : List CommRe
   }
 
   -- of a poll: the words of the cell waited for
-  pub polled : AllParts boot pool remap pages ids table call Poll bytes p w q scan m → Polls ids table w call m
-  unfolding cellFor
+  pub polled : AllParts boot pool remap pages ids cells call Poll bytes p w q scan m → Polls cells w call m
+  unfolding cellFor eventLooks
   polled a = record {
-    parts = with-words m (a .parts);
+    sets = a .sets;
+    size = a .shows .looks .table;
     waits = a .parts .waits;
     words = ap (λ (x : Waiting). commAt m (cellIndex (waitedCell x))) (sym (a .parts .waits)) ∙ a .shows .looks .words;
   }
 
-module _ {boot : ℕ} {pool remap : Pool} {pages ids : ℕ} {table : List CommRegion} {call : Waiting} {p : Cpu} {w : CommRegion} {q : Cpu} {scan : ℤ} where
-  pub polls : (bytes : List ℕ) (done : Polled) → PollMoves (Polls ids table w call) (poll call) done
-      → Settles (AllParts boot pool remap pages ids table call Poll bytes p w q scan) (cellOf bytes) (obeyed Poll bytes)
+module _ {boot : ℕ} {pool remap : Pool} {pages ids : ℕ} {cells : CellSets} {call : Waiting} {p : Cpu} {w : CommRegion} {q : Cpu} {scan : ℤ} where
+  pub polls : (bytes : List ℕ) (done : Polled) → PollMoves (Polls cells w call) (poll call) done
+      → Settles (AllParts boot pool remap pages ids cells call Poll bytes p w q scan) (cellOf bytes) (obeyed Poll bytes)
       (record { cpu = 0; touch = CpuChange.Keep; cut = done .cut; moves = done .moves })
   unfolding settled obeyed
   polls bytes done r = record {
@@ -107,16 +110,26 @@ module _ {boot : ℕ} {pool remap : Pool} {pages ids : ℕ} {table : List CommRe
 
 -- ---- a signed number that is handed on goes through its bits
 
-module _ {boot : ℕ} {pool remap : Pool} {pages ids : ℕ} {table : List CommRegion} {call : Waiting} {bytes : List ℕ} {p : Cpu} {w : CommRegion} {q : Cpu}
+module _ {boot : ℕ} {pool remap : Pool} {pages ids : ℕ} {cells : CellSets} {call : Waiting} {bytes : List ℕ} {p : Cpu} {w : CommRegion} {q : Cpu}
     {scan back : ℤ} {m : Machine} (same : back ≡ scan) where
-  pub call-passed : {cpu code a1 : ℕ} → CallParts boot pool remap pages ids table call cpu code a1 bytes p w q scan m
-      → CallParts boot pool remap pages ids table call cpu code a1 bytes p w q back m
-  call-passed h = record { parts = h .parts; caller = h .caller; words = h .words; asked = h .asked; size = h .size; scan = λ e. same ∙ h .scan e }
+  pub call-passed : {cpu code a1 : ℕ} → CallParts boot pool remap pages ids cells call cpu code a1 bytes p w q scan m
+      → CallParts boot pool remap pages ids cells call cpu code a1 bytes p w q back m
+  call-passed h = record {
+    parts = h .parts;
+    sets = h .sets;
+    table = h .table;
+    caller = h .caller;
+    words = h .words;
+    asked = h .asked;
+    size = h .size;
+    scan = λ e. same ∙ h .scan e;
+  }
 
-  pub all-passed : {e : Event} → AllParts boot pool remap pages ids table call e bytes p w q scan m
-      → AllParts boot pool remap pages ids table call e bytes p w q back m
+  pub all-passed : {e : Event} → AllParts boot pool remap pages ids cells call e bytes p w q scan m
+      → AllParts boot pool remap pages ids cells call e bytes p w q back m
   all-passed h = record {
     parts = h .parts;
+    sets = h .sets;
     shows = record { looks = h .shows .looks; asked = h .shows .asked; size = h .shows .size; scan = same ∙ h .shows .scan };
   }
 

@@ -4,14 +4,12 @@ use mathlib.Core.Bool.{Bool, true, false, not, _&&_}
 use mathlib.Core.List.{List}
 use mathlib.Core.Logic.{⊎-elim}
 use Prim.Native.Nat.{ℕ, _<_, _≤_}
-use borrow.Author.Tests.{eq-eqb, ne-eqb, lt-ltb, le-ltb}
+use borrow.Author.Tests.{eq-eqb, ne-eqb, le-ltb}
 use lib.Dec.{ltb, eqb}
 use lib.IntN.{ℤ, pos}
 use lib.ListN.{length, set}
 use Rattle.base.proofs.Tests.{le-or-lt}
 use Rattle.system_record.specs.declared.SystemConfig.{SystemConfig}
-use Rattle.machine_state.specs.declared.Cell.{Cell}
-use Rattle.machine_state.specs.declared.CommRegion.{CommRegion}
 use Rattle.machine_state.specs.declared.Cpu.{Cpu}
 use Rattle.machine_state.specs.declared.Event.{Event}
 use Rattle.machine_state.specs.declared.Event.the-variants.{Call, Fault}
@@ -24,17 +22,24 @@ use Rattle.cpu_table.specs.CpuTable.{cpuIndex}
 use Rattle.comms.specs.Comms.{Index, cellIndex}
 use Rattle.comms.proofs.Laws.{cell-inside}
 use Rattle.unobeyed.specs.Admission.{cpuFor, cellFor}
+use Rattle.create_rules.specs.declared.Found.{Found}
+use Rattle.create_rules.specs.Looks.{asksCreate}
 use Rattle.create_rules.specs.Rows.{createCode}
 use Rattle.decide.specs.Decide.{cellFails, scanOf, Scans, Scanned}
 
--- a scan's number, and the tables' sizes
-pub scanned : (room : List Cell) (table : List CommRegion) (ps : List Cpu) (has : Machine → Type 0) (e : Event) (bytes : List ℕ) (r : ℤ) → length room ≡ maxCells
-    → length table ≡ maxCells → length ps ≡ maxCpus → ((m : Machine) → has m → r ≡ scanOf e bytes m) → Scanned room table ps has e bytes r
-scanned room table ps has e bytes r a b c f = record { found = f; cells = a; words = b; cpus = c }
+-- a scan's number, and the table's size
+pub scanned : (ps : List Cpu) (has : Machine → Type 0) (e : Event) (bytes : List ℕ) (r : ℤ) → length ps ≡ maxCpus
+    → ((m : Machine) → has m → r ≡ scanOf e bytes m) → Scanned ps has e bytes r
+scanned ps has e bytes r c f = record { found = f; cpus = c }
 
 -- the event that an arm knows
 pub scan-at : (bytes : List ℕ) (m : Machine) (r : ℤ) {e known : Event} → e ≡ known → r ≡ scanOf known bytes m → r ≡ scanOf e bytes m
 scan-at bytes m r q s = subst (λ (x : Event). r ≡ scanOf x bytes m) (sym q) s
+
+-- a call with the code of Create asks for one
+pub create-asked : {e : Event} (cpu code a1 a2 : ℕ) → e ≡ Call cpu code a1 a2 → code ≡ cellCreate → asksCreate e ≡ true
+unfolding asksCreate
+create-asked cpu code a1 a2 told c = ap asksCreate told ∙ eq-eqb code cellCreate c
 
 module _ (bytes : List ℕ) (m : Machine) (cpu code a1 a2 : ℕ) where
   pub scan-create : (r : ℤ) → code ≡ cellCreate → r ≡ createCode cpu bytes (counted callCounter cpu m) → r ≡ scanOf (Call cpu code a1 a2) bytes m
@@ -89,8 +94,8 @@ module _ (m : Machine) (cpu : ℕ) (p : Cpu) (cellSet word : ℕ) (ps : List Cpu
       ∙ sym (ap (λ (x : Cpu). test (x .cell) (cellAt m (x .cell) .cpus) (stateAt m (x .cell)) (m .cpus)) own)
 
 -- what the code found of a fault
-pub fault-found : {s : SystemConfig} {pages live root : ℕ} {room : List Cell} {table : List CommRegion} {ps : List Cpu} {p : Cpu} {cellSet word : ℕ} {e : Event}
-    (m : Machine) (cpu k : ℕ) (found : Bool) → e ≡ Fault cpu → Index (cpuIndex cpu) maxCpus k → Scans s pages live root room table ps p cellSet word e m
+pub fault-found : {s : SystemConfig} {pages live root : ℕ} {ps : List Cpu} {p : Cpu} {cellSet word : ℕ} {closed : Bool} {seen : Found} {e : Event} {bytes : List ℕ}
+    (m : Machine) (cpu k : ℕ) (found : Bool) → e ≡ Fault cpu → Index (cpuIndex cpu) maxCpus k → Scans s pages live root ps p cellSet word closed seen e bytes m
     → found ≡ (not (eqb (p .cell) rootId) && ltb (p .cell) maxCells && allFailed cellSet (set ps k (failCpu (cpuIn ps k))) && not (isFinal word))
     → found ≡ cellFails (cpuIndex cpu) m
 unfolding cpuFor cellFor

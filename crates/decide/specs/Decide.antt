@@ -3,7 +3,7 @@ use mathlib.Core.Path.{_≡_}
 use mathlib.Core.Bool.{Bool, true, false, not, _&&_}
 use mathlib.Core.List.{List, []}
 use Prim.Native.Nat.{ℕ, _<_}
-use lib.Dec.{ltb, eqb}
+use lib.Dec.{leb, ltb, eqb}
 use lib.IntN.{ℤ, pos}
 use lib.ListN.{length, set}
 use Rattle.system_record.specs.declared.Pool.{Pool}
@@ -11,7 +11,6 @@ use Rattle.system_record.specs.declared.SystemConfig.{SystemConfig}
 use Rattle.cell_record.specs.declared.CellConfig.{CellConfig}
 use Rattle.cell_record.specs.CellRecord.{cellOf}
 use Rattle.machine_state.specs.declared.Cpu.{Cpu}
-use Rattle.machine_state.specs.declared.Cell.{Cell}
 use Rattle.machine_state.specs.declared.CommRegion.{CommRegion}
 use Rattle.machine_state.specs.declared.Event.{Event}
 use Rattle.machine_state.specs.declared.Event.the-variants.{Call, Store, Fault, Exit, Poll, Malformed}
@@ -20,14 +19,19 @@ use Rattle.machine_state.specs.declared.Stepped.{Stepped}
 use Rattle.machine_state.specs.declared.Waiting.{Waiting}
 use Rattle.machine_state.specs.Machine.{maxCells, maxCpus}
 use Rattle.rules.specs.State.{rootId, bootCpus, cellAt, commAt, stateAt, cpuAt, isFinal}
+use Rattle.rules.specs.Create.{someCellLocked}
 use Rattle.rules.specs.Effects.{counted, callCounter, failCpu, allFailed}
-use Rattle.rules.specs.Calls.{cellCreate, createCall}
+use Rattle.rules.specs.Calls.{cellCreate, cellDestroy, createCall}
 use Rattle.rules.specs.Step.{step}
 use Rattle.cpu_table.specs.CpuTable.{touched, cpuIndex}
+use Rattle.comms.specs.declared.CellSets.{CellSets}
 use Rattle.comms.specs.Comms.{cellIndex}
+use Rattle.comms.specs.Sets.{Sets}
 use Rattle.asking.specs.declared.Move.{Move}
-use Rattle.asking.specs.Moves.{moved, cutOffAt}
+use Rattle.asking.specs.Moves.{moved, WithSets, pollLooks, cutOffAt}
 use Rattle.unobeyed.specs.Admission.{cpuFor, askedFor, cellFor, Looks}
+use Rattle.create_rules.specs.declared.Found.{Found}
+use Rattle.create_rules.specs.Looks.{foundLive, asksCreate}
 use Rattle.create_rules.specs.Rows.{createCode}
 use Rattle.decide.specs.declared.Decision.{Decision}
 
@@ -67,13 +71,21 @@ scanOf Malformed bytes m = pos 0
 
 -- ---- the parts of a machine from which an event is decided
 
-pub record Parts (started : ℕ) (main other : Pool) (pages live : ℕ) (table : List CommRegion) (call : Waiting) (m : Machine) : Type 0 where
+-- an event looks at the sets of cells: a call up to Destroy's code, and a poll that looks; these words matter to it
+unfoldable pub eventLooks : Event → CommRegion → Waiting → Bool
+eventLooks (Call cpu code a1 a2) w call = leb code cellDestroy
+eventLooks (Store cpu word value) w call = false
+eventLooks (Fault cpu) w call = false
+eventLooks (Exit cpu kind) w call = false
+eventLooks Poll w call = pollLooks w call
+eventLooks Malformed w call = false
+
+pub record Parts (started : ℕ) (main other : Pool) (pages live : ℕ) (call : Waiting) (m : Machine) : Type 0 where
   pub boot : bootCpus m ≡ started
   pub pool : m .system .pool ≡ main
   pub remap : m .system .remap ≡ other
   pub used : m .«pool_used» ≡ pages
   pub ids : m .«live_ids» ≡ live
-  pub words : m .comms ≡ table
   pub waits : m .waiting ≡ call
 
 -- of the tables: the event's CPU and the words that matter to it, the CPU that is asked about, and what a scan found
@@ -83,20 +95,30 @@ pub record Shows (e : Event) (bytes : List ℕ) (p : Cpu) (w : CommRegion) (q : 
   pub size : length (m .cpus) ≡ maxCpus
   pub scan : found ≡ scanOf e bytes m
 
-pub record AllParts (boot : ℕ) (pool remap : Pool) (pages live : ℕ) (table : List CommRegion) (call : Waiting) (e : Event) (bytes : List ℕ) (p : Cpu)
+-- with the sets of cells, where the event looks at them
+pub record AllParts (boot : ℕ) (pool remap : Pool) (pages live : ℕ) (cells : CellSets) (call : Waiting) (e : Event) (bytes : List ℕ) (p : Cpu)
     (w : CommRegion) (q : Cpu) (found : ℤ) (m : Machine) : Type 0 where
-  pub parts : Parts boot pool remap pages live table call m
+  pub parts : Parts boot pool remap pages live call m
+  pub sets : eventLooks e w call ≡ true → Sets cells m
   pub shows : Shows e bytes p w q found m
 
 -- the same of a call, with its caller's CPU
-pub record CallParts (boot : ℕ) (pool remap : Pool) (pages live : ℕ) (table : List CommRegion) (call : Waiting) (cpu code a1 : ℕ) (bytes : List ℕ) (p : Cpu)
+pub record CallParts (boot : ℕ) (pool remap : Pool) (pages live : ℕ) (cells : CellSets) (call : Waiting) (cpu code a1 : ℕ) (bytes : List ℕ) (p : Cpu)
     (w : CommRegion) (q : Cpu) (found : ℤ) (m : Machine) : Type 0 where
-  pub parts : Parts boot pool remap pages live table call m
+  pub parts : Parts boot pool remap pages live call m
+  pub sets : leb code cellDestroy ≡ true → Sets cells m
+  pub table : length (m .comms) ≡ maxCells
   pub caller : cpuAt m cpu ≡ p
   pub words : commAt m (cellIndex a1) ≡ w
   pub asked : cpuAt m (cpuIndex a1) ≡ q
   pub size : length (m .cpus) ≡ maxCpus
   pub scan : code ≡ cellCreate → found ≡ createCode cpu bytes (counted callCounter cpu m)
+
+-- those of a call that looks at the sets of cells, already counted
+pub record Waits (live : ℕ) (cells : CellSets) (waiting : Waiting) (m : Machine) : Type 0 where
+  pub ids : m .«live_ids» ≡ live
+  pub parts : WithSets cells m
+  pub waits : m .waiting ≡ waiting
 
 -- those of a fault
 pub record Faulty (found : ℤ) (p : Cpu) (waiting : Waiting) (cpu : ℕ) (m : Machine) : Type 0 where
@@ -105,25 +127,23 @@ pub record Faulty (found : ℤ) (p : Cpu) (waiting : Waiting) (cpu : ℕ) (m : M
   pub size : length (m .comms) ≡ maxCells
   pub scan : found ≡ scanOf (Fault cpu) [] m
 
--- those that a scan looks through
-pub record Scans (s : SystemConfig) (pages live root : ℕ) (room : List Cell) (table : List CommRegion) (ps : List Cpu) (p : Cpu) (cellSet word : ℕ) (e : Event)
-    (m : Machine) : Type 0 where
+-- those that a scan looks at; for a Create also whether a cell has locked the configuration, and what a look at all live cells found
+pub record Scans (s : SystemConfig) (pages live root : ℕ) (ps : List Cpu) (p : Cpu) (cellSet word : ℕ) (closed : Bool) (seen : Found) (e : Event)
+    (bytes : List ℕ) (m : Machine) : Type 0 where
   pub system : m .system ≡ s
   pub used : m .«pool_used» ≡ pages
   pub ids : m .«live_ids» ≡ live
   pub rootCpus : m .«root_cpus» ≡ root
-  pub cells : m .cells ≡ room
-  pub words : m .comms ≡ table
   pub cpus : m .cpus ≡ ps
   pub own : cpuAt m (cpuFor e) ≡ p
   pub set : cellAt m (cellIndex (p .cell)) .cpus ≡ cellSet
   pub state : stateAt m (cellIndex (cellFor e (p .cell) (m .waiting))) ≡ word
+  pub locked : asksCreate e ≡ true → closed ≡ someCellLocked m
+  pub found : asksCreate e ≡ true → seen ≡ foundLive bytes m
 
--- what a scan gives: the definition's number; and the tables that it had have a place for each cell and each CPU
-pub record Scanned (room : List Cell) (table : List CommRegion) (ps : List Cpu) (has : Machine → Type 0) (e : Event) (bytes : List ℕ) (r : ℤ) : Type 0 where
+-- what a scan gives: the definition's number; and the table that it had has a place for each CPU
+pub record Scanned (ps : List Cpu) (has : Machine → Type 0) (e : Event) (bytes : List ℕ) (r : ℤ) : Type 0 where
   pub found : (m : Machine) → has m → r ≡ scanOf e bytes m
-  pub cells : length room ≡ maxCells
-  pub words : length table ≡ maxCells
   pub cpus : length ps ≡ maxCpus
 
 -- ---- what the parts of a decision say

@@ -1,5 +1,5 @@
-// What an event decides: read from small parts of the machine, changing nothing. Whole tables of cells
-// and CPUs are looked through by `scan` alone.
+// What an event decides: read from small parts of the machine, changing nothing. The table of CPUs is
+// looked through by `scan` alone, and the table of cells by no function here.
 ghost use mathlib.Core.Path.{_≡_};
 ghost use mathlib.Core.Bool.{not, _&&_};
 ghost use mathlib.Core.List.{List};
@@ -9,7 +9,6 @@ ghost use lib.IntN.{ℤ};
 ghost use lib.ListN.{set as set-at};
 ghost use Rattle.cell_record.specs.declared.CellConfig.{CellConfig};
 ghost use Rattle.cell_record.specs.CellRecord.{cellOf};
-ghost use Rattle.machine_state.specs.declared.CommRegion.{CommRegion};
 ghost use Rattle.machine_state.specs.declared.Waiting.{Waiting};
 ghost use Rattle.machine_state.specs.declared.Machine.{Machine};
 ghost use Rattle.machine_state.specs.Machine.{cpuIn, maxCells};
@@ -17,19 +16,22 @@ ghost use Rattle.rules.specs.State.{rootId, cpuAt, isFinal, answered};
 ghost use Rattle.rules.specs.Effects.{counted, exitCounter, callCounter, stored, failCpu, allFailed, faulted};
 ghost use Rattle.rules.specs.Calls.{targetCall, callByCode, call as call-of};
 ghost use Rattle.rules.specs.Step.{obeyed};
-ghost use Rattle.asking.specs.Moves.{Waits, Moves};
+ghost use Rattle.comms.specs.declared.CellSets.{CellSets};
+ghost use Rattle.asking.specs.Moves.{Moves};
 ghost use Rattle.unobeyed.specs.Admission.{Placed};
 ghost use Rattle.create_rules.specs.Rows.{createCode};
-ghost use Rattle.decide.specs.Decide.{Settles, Decides, Faulty, Creates, Calls, CallParts, AllParts, Scans, Scanned};
+ghost use Rattle.decide.specs.Decide.{Settles, Decides, eventLooks, Waits, Faulty, Creates, Calls, CallParts, AllParts, Scans, Scanned};
 use asking::Effect;
 use asking::Move;
 use base::EINVAL;
 use base::ENOENT;
 use base::ENOSYS;
 use base::EPERM;
+use comms::CellSets;
 use comms::WordsChange;
 use cpu_table::CALL_COUNTER;
 use cpu_table::CpuChange;
+use create_rules::Found;
 use machine_state::Answer;
 use machine_state::CELL_CREATE;
 use machine_state::CELL_DESTROY;
@@ -38,7 +40,6 @@ use machine_state::CELL_SET_LOADABLE;
 use machine_state::CELL_START;
 use machine_state::CPU_GET_INFO;
 use machine_state::CallKind;
-use machine_state::Cell;
 use machine_state::CommRegion;
 use machine_state::Cpu;
 use machine_state::Event;
@@ -139,14 +140,8 @@ fn fault(scan: i32, p: Cpu, waiting: Waiting, cpu: u64) -> Decision
 }
 
 // Start, Set Loadable and Destroy.
-fn target_call(
-    live_ids: u16,
-    comms: [CommRegion; MAX_CELLS],
-    waiting: Waiting,
-    kind: CallKind,
-    id: u64,
-) -> Move
-    ensures { λ r. ⌜ Moves (Waits «live_ids» comms waiting) (targetCall kind id) r ⌝ }
+fn target_call(live_ids: u16, cells: CellSets, waiting: Waiting, kind: CallKind, id: u64) -> Move
+    ensures { λ r. ⌜ Moves (Waits «live_ids» cells waiting) (targetCall kind id) r ⌝ }
 {
     if id == 0 {
         return asking::stay(Answer::Code(EINVAL), waiting);
@@ -155,19 +150,19 @@ fn target_call(
         return asking::stay(Answer::Code(ENOENT), waiting);
     }
     let target = id as usize;
-    if asking::is_destroy(kind) & comms::is_locked_but(live_ids, comms, target) {
+    if asking::is_destroy(kind) & comms::is_locked_but(cells.locked, target) {
         return asking::stay(Answer::Code(EPERM), waiting);
     }
-    asking::ask(live_ids, comms, kind, target, 0)
+    asking::ask(cells, kind, target, 0)
 }
 
 // Create, which `scan` refuses or lets through.
-fn create_call(live_ids: u16, comms: [CommRegion; MAX_CELLS], waiting: Waiting, scan: i32) -> Move
-    ensures { λ r. ⌜ ((caller : ℕ) (bytes : List ℕ) → Creates (λ m. Waits «live_ids» comms waiting m × (scan ≡ createCode caller bytes m)) caller bytes r) ⌝ }
+fn create_call(live_ids: u16, cells: CellSets, waiting: Waiting, scan: i32) -> Move
+    ensures { λ r. ⌜ ((caller : ℕ) (bytes : List ℕ) → Creates (λ m. Waits «live_ids» cells waiting m × (scan ≡ createCode caller bytes m)) caller bytes r) ⌝ }
 {
     if scan == 0 {
         let id = comms::free_id(live_ids);
-        return asking::ask(live_ids, comms, CallKind::Create, id, 0);
+        return asking::ask(cells, CallKind::Create, id, 0);
     }
     asking::stay(Answer::Code(scan), waiting)
 }
@@ -188,7 +183,7 @@ fn query(
     a2: u64,
 ) -> Answer
     requires { ⌜ (cpu < 64) × (4 < code) × (code ≤ 7) ⌝ }
-    ensures { λ r. ⌜ ((table : List CommRegion) (waiting : Waiting) (bytes : List ℕ) (scan : ℤ) (m : Machine) → CallParts «boot_cpus» pool remap «pool_used» «live_ids» table waiting cpu code a1 bytes p w q scan m → answered r (counted callCounter cpu m) ≡ callByCode cpu code a1 a2 bytes (counted callCounter cpu m)) ⌝ }
+    ensures { λ r. ⌜ ((cells : CellSets) (waiting : Waiting) (bytes : List ℕ) (scan : ℤ) (m : Machine) → CallParts «boot_cpus» pool remap «pool_used» «live_ids» cells waiting cpu code a1 bytes p w q scan m → answered r (counted callCounter cpu m) ≡ callByCode cpu code a1 a2 bytes (counted callCounter cpu m)) ⌝ }
 {
     if code == HYPERVISOR_GET_INFO {
         return queries::get_info(pool, remap, pool_used, live_ids, a1);
@@ -206,7 +201,7 @@ fn by_code(
     remap: Pool,
     pool_used: u32,
     live_ids: u16,
-    comms: [CommRegion; MAX_CELLS],
+    cells: CellSets,
     waiting: Waiting,
     p: Cpu,
     w: CommRegion,
@@ -218,22 +213,22 @@ fn by_code(
     a2: u64,
 ) -> Move
     requires { ⌜ (cpu < 64) × (code ≤ 7) ⌝ }
-    ensures { λ r. ⌜ ((bytes : List ℕ) → Calls (CallParts «boot_cpus» pool remap «pool_used» «live_ids» comms waiting cpu code a1 bytes p w q scan) cpu bytes (callByCode cpu code a1 a2 bytes) r) ⌝ }
+    ensures { λ r. ⌜ ((bytes : List ℕ) → Calls (CallParts «boot_cpus» pool remap «pool_used» «live_ids» cells waiting cpu code a1 bytes p w q scan) cpu bytes (callByCode cpu code a1 a2 bytes) r) ⌝ }
 {
     if code == HYPERVISOR_DISABLE {
-        return asking::ask(live_ids, comms, CallKind::Disable, 0, 0);
+        return asking::ask(cells, CallKind::Disable, 0, 0);
     }
     if code == CELL_CREATE {
-        return create_call(live_ids, comms, waiting, scan);
+        return create_call(live_ids, cells, waiting, scan);
     }
     if code == CELL_START {
-        return target_call(live_ids, comms, waiting, CallKind::Start, a1);
+        return target_call(live_ids, cells, waiting, CallKind::Start, a1);
     }
     if code == CELL_SET_LOADABLE {
-        return target_call(live_ids, comms, waiting, CallKind::SetLoadable, a1);
+        return target_call(live_ids, cells, waiting, CallKind::SetLoadable, a1);
     }
     if code == CELL_DESTROY {
-        return target_call(live_ids, comms, waiting, CallKind::Destroy, a1);
+        return target_call(live_ids, cells, waiting, CallKind::Destroy, a1);
     }
     let answer = query(
         boot_cpus,
@@ -259,7 +254,7 @@ fn call(
     remap: Pool,
     pool_used: u32,
     live_ids: u16,
-    comms: [CommRegion; MAX_CELLS],
+    cells: CellSets,
     waiting: Waiting,
     p: Cpu,
     w: CommRegion,
@@ -271,7 +266,7 @@ fn call(
     a2: u64,
 ) -> Move
     requires { ⌜ cpu < 64 ⌝ }
-    ensures { λ r. ⌜ ((bytes : List ℕ) → Calls (CallParts «boot_cpus» pool remap «pool_used» «live_ids» comms waiting cpu code a1 bytes p w q scan) cpu bytes (call-of cpu code a1 a2 bytes) r) ⌝ }
+    ensures { λ r. ⌜ ((bytes : List ℕ) → Calls (CallParts «boot_cpus» pool remap «pool_used» «live_ids» cells waiting cpu code a1 bytes p w q scan) cpu bytes (call-of cpu code a1 a2 bytes) r) ⌝ }
 {
     if CPU_GET_INFO < code {
         return asking::stay(Answer::Code(ENOSYS), waiting);
@@ -285,7 +280,7 @@ fn call(
         remap,
         pool_used,
         live_ids,
-        comms,
+        cells,
         waiting,
         p,
         w,
@@ -305,7 +300,7 @@ fn obey(
     remap: Pool,
     pool_used: u32,
     live_ids: u16,
-    comms: [CommRegion; MAX_CELLS],
+    cells: CellSets,
     waiting: Waiting,
     p: Cpu,
     w: CommRegion,
@@ -314,7 +309,7 @@ fn obey(
     e: Event,
 ) -> Decision
     requires { ⌜ Placed p e ⌝ }
-    ensures { λ r. ⌜ ((bytes : List ℕ) → Settles (AllParts «boot_cpus» pool remap «pool_used» «live_ids» comms waiting e bytes p w q scan) (cellOf bytes) (obeyed e bytes) r) ⌝ }
+    ensures { λ r. ⌜ ((bytes : List ℕ) → Settles (AllParts «boot_cpus» pool remap «pool_used» «live_ids» cells waiting e bytes p w q scan) (cellOf bytes) (obeyed e bytes) r) ⌝ }
 {
     match e {
         Event::Call(cpu, code, a1, a2) => {
@@ -324,7 +319,7 @@ fn obey(
                 remap,
                 pool_used,
                 live_ids,
-                comms,
+                cells,
                 waiting,
                 p,
                 w,
@@ -346,7 +341,7 @@ fn obey(
         Event::Fault(cpu) => fault(scan, p, waiting, cpu),
         Event::Exit(cpu, kind) => exit(waiting, cpu, kind),
         Event::Poll => {
-            let polled = asking::poll(live_ids, comms, w, waiting);
+            let polled = asking::poll(cells, w, waiting);
             let moves = polled.moves;
             Decision {
                 cpu: 0,
@@ -359,8 +354,22 @@ fn obey(
     }
 }
 
+// Whether an event looks at the sets of cells; `w` are the words that matter to it.
+pub fn looks(e: Event, w: CommRegion, waiting: Waiting) -> bool
+    ensures { λ r. ⌜ r ≡ eventLooks e w waiting ⌝ }
+{
+    match e {
+        Event::Call(_, code, _, _) => code <= CELL_DESTROY,
+        Event::Store(_, _, _) => false,
+        Event::Fault(_) => false,
+        Event::Exit(_, _) => false,
+        Event::Poll => asking::looks(w, waiting),
+        Event::Malformed => false,
+    }
+}
+
 // Decides on an event: on its CPU `p`, with the words `w` that matter to it, the CPU `q` that it asks
-// about, and what `scan` found.
+// about, and what `scan` found. `cells` matter only where the event looks at them.
 pub fn decide(
     power: Power,
     boot_cpus: u64,
@@ -368,7 +377,7 @@ pub fn decide(
     remap: Pool,
     pool_used: u32,
     live_ids: u16,
-    comms: [CommRegion; MAX_CELLS],
+    cells: CellSets,
     waiting: Waiting,
     p: Cpu,
     w: CommRegion,
@@ -376,7 +385,7 @@ pub fn decide(
     scan: i32,
     e: Event,
 ) -> Decision
-    ensures { λ r. ⌜ Decides (λ bytes m. (m .power ≡ power) × AllParts «boot_cpus» pool remap «pool_used» «live_ids» comms waiting e bytes p w q scan m) e r ⌝ }
+    ensures { λ r. ⌜ Decides (λ bytes m. (m .power ≡ power) × AllParts «boot_cpus» pool remap «pool_used» «live_ids» cells waiting e bytes p w q scan m) e r ⌝ }
 {
     let admission = unobeyed::admit(power, boot_cpus, p, w, waiting, e);
     match admission {
@@ -387,7 +396,7 @@ pub fn decide(
             remap,
             pool_used,
             live_ids,
-            comms,
+            cells,
             waiting,
             p,
             w,
@@ -406,24 +415,26 @@ fn cell_fails(set: u64, id: usize, state: u32, cpus: [Cpu; MAX_CPUS], cpu: usize
     !(id == 0) & (id < MAX_CELLS) & cpu_table::all_failed(set, cpu, cpus) & !comms::is_final(state)
 }
 
-// What only a look through whole tables says of an event, as a number, so that the tables are not
-// copied for it: of a Create the code that refuses it, or 0; of a fault 1 where its cell fails; of any
-// other event 0. `p` is the event's CPU, `set` are the CPUs of its cell, and `state` is that cell's.
+// What only a look at many cells or CPUs says of an event, as a number, so that the table of CPUs is
+// not copied for it: of a Create the code that refuses it, or 0; of a fault 1 where its cell fails; of
+// any other event 0. `p` is the event's CPU, `set` are the CPUs of its cell, and `state` is that
+// cell's. For a Create, `locked` says whether some cell has locked the configuration, and `found` what
+// a look at all live cells found.
 pub fn scan(
     system: SystemConfig,
     pool_used: u32,
     live_ids: u16,
     root_cpus: u64,
-    cells: [Cell; MAX_CELLS],
-    comms: [CommRegion; MAX_CELLS],
     cpus: [Cpu; MAX_CPUS],
     p: Cpu,
     set: u64,
     state: u32,
+    locked: bool,
+    found: Found,
     e: Event,
     record: &[u8],
 ) -> i32
-    ensures { λ r. ⌜ Scanned cells comms cpus (Scans system «pool_used» «live_ids» «root_cpus» cells comms cpus p «set» state e) e (now («record» .entry)) r ⌝ }
+    ensures { λ r. ⌜ Scanned cpus (Scans system «pool_used» «live_ids» «root_cpus» cpus p «set» state locked found e (now («record» .entry))) e (now («record» .entry)) r ⌝ }
 {
     match e {
         Event::Call(cpu, code, _, _) => {
@@ -433,8 +444,8 @@ pub fn scan(
                     pool_used,
                     live_ids,
                     root_cpus,
-                    cells,
-                    comms,
+                    locked,
+                    found,
                     cpu,
                     record,
                 );

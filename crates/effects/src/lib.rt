@@ -8,14 +8,17 @@ ghost use mathlib.Core.List.{List, _∷_};
 ghost use Rattle.rules.specs.State.{withPower};
 ghost use Rattle.rules.specs.Effects.{poolCost, newCell, withPhase, clearWords, withState, effect as effect-of, allDestroyed, disabled};
 ghost use Rattle.asking.specs.Moves.{effectOf, cutOffAt};
+ghost use Rattle.effects.specs.Applying.{restOf, EffectPart, IsNext, TableSizes};
 ghost use Rattle.effects.specs.Parts.{isDisable, figuresOf, targetOf, numbersAfter, within, kindChange, cellChange, changedCell, newWords, wordsAfter};
 use asking::Effect;
 use cpu_table::CpuChange;
 use machine_state::CallKind;
 use machine_state::Cell;
 use machine_state::CommRegion;
+use machine_state::Cpu;
 use machine_state::FAILED;
 use machine_state::MAX_CELLS;
+use machine_state::MAX_CPUS;
 use machine_state::Machine;
 use machine_state::Phase;
 use machine_state::Power;
@@ -52,6 +55,28 @@ pub enum CellChange {
     New,
     Phase(Phase),
     Empty,
+}
+
+// What is applied next of a decision: a CPU of a set that is being changed, a cell that is cut off, a
+// change of one cell, the machine switched off, or nothing more.
+pub enum Part {
+    Cpu(usize),
+    CutOff(usize),
+    Change(CallKind, usize),
+    Off,
+    Nothing,
+}
+
+// How long a machine's tables are: what a shell that keeps the machine in its parts knows of them.
+// Does nothing else.
+pub fn table_sizes(
+    cells: [Cell; MAX_CELLS],
+    comms: [CommRegion; MAX_CELLS],
+    cpus: [Cpu; MAX_CPUS],
+) -> bool
+    ensures { λ r. ⌜ TableSizes cells comms cpus ⌝ }
+{
+    true
 }
 
 // Whether the effect is Disable's, which is about every cell.
@@ -320,6 +345,10 @@ fn on_cell(m: Machine, kind: CallKind, id: usize, record: &[u8]) -> Machine
     ensures { λ r. ⌜ (isDisable kind ≡ false → r ≡ effect-of kind id (cellOf (now («record» .entry))) m) ⌝ }
 {
     let mut next = m;
+    let cells = m.cells;
+    let comms = m.comms;
+    let cpus = m.cpus;
+    table_sizes(cells, comms, cpus);
     let i = comms::cell_index(id);
     let new = figures_of(record);
     let numbers = numbers_after(
@@ -333,7 +362,6 @@ fn on_cell(m: Machine, kind: CallKind, id: usize, record: &[u8]) -> Machine
         m.root_cpus,
     );
     let how = numbers.how;
-    let cpus = m.cpus;
     next.pool_used = numbers.pool_used;
     next.live_ids = numbers.live_ids;
     next.root_cpus = numbers.root_cpus;
@@ -400,5 +428,51 @@ pub fn carry_out(m: Machine, effect: Effect, record: &[u8]) -> Machine
             }
             on_cell(m, kind, id, record)
         }
+    }
+}
+
+// What is left of an effect after a change of one cell: Disable comes back until it has switched off.
+pub fn rest_of(effect: Effect) -> Effect
+    ensures { λ r. ⌜ r ≡ restOf effect ⌝ }
+{
+    match effect {
+        Effect::NoEffect => Effect::NoEffect,
+        Effect::Comes(kind, id) => {
+            if is_disable(kind) {
+                return Effect::Comes(kind, id);
+            }
+            Effect::NoEffect
+        }
+    }
+}
+
+// The next part of an effect on cell `id`: Disable destroys the lowest live cell while there is one.
+fn effect_part(kind: CallKind, id: usize, live_ids: u16) -> Part
+    ensures { λ r. ⌜ EffectPart kind id «live_ids» r ⌝ }
+{
+    if is_disable(kind) {
+        let next = comms::lowest(comms::drop_id(live_ids, 0));
+        if next < MAX_CELLS {
+            return Part::Change(CallKind::Destroy, next);
+        }
+        return Part::Off;
+    }
+    Part::Change(kind, id)
+}
+
+// The part that comes next, with `cpus` the CPUs that are still to be changed, `cut` the cell that is
+// still to be cut off, from `MAX_CELLS` up for none, and `effect` what is still to come.
+pub fn next_part(cpus: u64, cut: usize, effect: Effect, live_ids: u16) -> Part
+    ensures { λ r. ⌜ IsNext cpus cut effect «live_ids» r ⌝ }
+{
+    if cpus != 0 {
+        return Part::Cpu(cpu_table::first_cpu(cpus));
+    }
+    if cut < MAX_CELLS {
+        return Part::CutOff(cut);
+    }
+    match effect {
+        Effect::NoEffect => Part::Nothing,
+        Effect::Comes(kind, id) => effect_part(kind, id, live_ids),
     }
 }

@@ -2,6 +2,7 @@
 ghost use mathlib.Core.Path.{_≡_};
 ghost use Rattle.rules.specs.State.{withWaiting};
 ghost use Rattle.rules.specs.Step.{step as step-of};
+use comms::CellSets;
 use machine_state::Event;
 use machine_state::Machine;
 use machine_state::Stepped;
@@ -46,17 +47,22 @@ pub fn step(m: Machine, e: Event, record: &[u8]) -> Stepped
     let own = comms::cell_index(p.cell);
     let at = unobeyed::words_for(e, p.cell, waiting);
     let w = m.comms[at];
+    effects::table_sizes(cells, comms, cpus);
+    let look = decide::looks(e, w, waiting);
+    let messageable = comms::messageable(look, m.live_ids, comms);
+    let locked = comms::locked(look, m.live_ids, comms);
+    let found = create_rules::look_through(e, m.live_ids, cells, record);
     let scan = decide::scan(
         system,
         m.pool_used,
         m.live_ids,
         m.root_cpus,
-        cells,
-        comms,
         cpus,
         p,
         m.cells[own].cpus,
         w.cell_state,
+        comms::is_locked_but(locked, 0),
+        found,
         e,
         record,
     );
@@ -69,7 +75,10 @@ pub fn step(m: Machine, e: Event, record: &[u8]) -> Stepped
         remap,
         m.pool_used,
         m.live_ids,
-        comms,
+        CellSets {
+            messageable,
+            locked,
+        },
         waiting,
         p,
         w,

@@ -1,6 +1,5 @@
 -- `asking::carry_out` meets its contract: by whether the call tells after its effect. Assumes nothing.
-use mathlib.Core.Path.{sym, ap, _∙_}
-use lib.ListN.{length}
+use mathlib.Core.Path.{sym, _∙_}
 use Rattle.asking.proofs.Laws.{moves-as, carried-told, carried-ended}
 use borrow.Author.Needs.{needs}
 use Rattle.asking.proofs.carry_out.Statement.{statement}
@@ -11,8 +10,8 @@ returns c =
     let a = c .before .before .before .before in
     let told = sym (c .before .before .before .tells .ensures) ∙ c .before .before .if1 .taken in
     moves-as (c .tell-next .ensures) (λ m h. tt)
-    (λ m new h. carried-told (a .args .kind) (a .args .target) new m _ told (ap length (h .words) ∙ a .good .1 .0 .1 .0 .1)
-    (c .before .next-cell .ensures m (h .ids) (h .words)))
+    (λ m new h. carried-told (a .args .kind) (a .args .target) new m _ told (h .size)
+    (c .before .next-cell .ensures m (h .sets .messageable)))
 
 returns-2 : tie.Need-returns-2
 returns-2 c =

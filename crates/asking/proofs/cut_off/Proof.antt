@@ -1,4 +1,4 @@
--- `asking::cut_off` meets its contract: the cell's words, failed, and what is heard from them. Assumes nothing.
+-- `asking::cut_off` meets its contract: the cell's words, failed, the sets without it, and what is heard from them. Assumes nothing.
 use Rattle.asking.proofs.Laws.{cuts}
 use borrow.Author.Needs.{needs}
 use Rattle.asking.proofs.cut_off.Statement.{statement}
@@ -6,8 +6,8 @@ use Rattle.asking.proofs.cut_off.Tie as tie
 
 returns : tie.Need-returns
 returns c =
-    let entry = c .before .before in
-    cuts _ _ _ _ _ _ _ (entry .pre) (entry .good .1 .0 .1 .0 .1) (c .before .change-words .ensures) (c .hear .ensures)
+    let failed = c .before .before in
+    cuts _ _ _ _ _ _ _ (failed .before .pre) (failed .change-words .ensures) (c .before .without-cell .ensures) (c .hear .ensures)
 
 pub cut-off-spec : {M : Type 1} → statement M
-cut-off-spec = tie.close (tie.spec (λ c κs. search needs) (λ c. search needs) (λ c. search needs) (λ c κs. search needs) returns)
+cut-off-spec = tie.close (tie.spec (λ c κs. search needs) (λ c κs. search needs) (λ c κs. search needs) returns)

@@ -13,7 +13,7 @@ unfolding among effectOf
 returns c =
     let a = c .before .before .before .args in
     moves-as (c .tell-next .ensures) (λ m h. tt)
-    (λ m new h. tells-next (a .kind) (a .stage .target) _ m (a .stage .cell) (c .before .next-cell .ensures m (h .parts .ids) (h .parts .words))
+    (λ m new h. tells-next (a .kind) (a .stage .target) _ m (a .stage .cell) (c .before .next-cell .ensures m (h .parts .sets .messageable))
     ∙ heard-telling (a .kind) (a .stage) new m (c .before .before .if1 .taken))
 
 returns-2 : tie.Need-returns-2

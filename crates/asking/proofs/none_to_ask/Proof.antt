@@ -11,7 +11,7 @@ returns c =
     let a = c .before .before .before .before .args in
     moves-as (c .finish .ensures) (λ m h. tt)
     (λ m new h. locked (a .kind) (a .target) new m
-    (sym (ap₂ (λ (x y : Bool). x && y) (c .before .before .before .is-destroy .ensures) (c .before .before .is-locked-but .ensures m (h .ids) (h .words)))
+    (sym (ap₂ (λ (x y : Bool). x && y) (c .before .before .before .is-destroy .ensures) (c .before .before .is-locked-but .ensures m (h .sets .locked)))
     ∙ c .before .if1 .taken))
 
 returns-2 : tie.Need-returns-2
@@ -19,7 +19,7 @@ returns-2 c =
     let a = c .before .before .before .before .args in
     moves-as (c .carry-out .ensures) (λ m h. h)
     (λ m new h. not-locked (a .kind) (a .target) new m
-    (sym (ap₂ (λ (x y : Bool). x && y) (c .before .before .before .is-destroy .ensures) (c .before .before .is-locked-but .ensures m (h .ids) (h .words)))
+    (sym (ap₂ (λ (x y : Bool). x && y) (c .before .before .before .is-destroy .ensures) (c .before .before .is-locked-but .ensures m (h .sets .locked)))
     ∙ c .before .if1 .left))
 
 pub none-to-ask-spec : {M : Type 1} → statement M

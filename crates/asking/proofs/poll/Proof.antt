@@ -16,7 +16,7 @@ returns-2 : tie.Need-returns-2
 unfolding poll
 returns-2 c =
     let told = c .before .before .waiting .given .1 in
-    poll-as (c .poll-cell .ensures) (λ m h. record { parts = h .parts; waits = h .waits ∙ told; words = rw told at (h .words) })
+    poll-as (c .poll-cell .ensures) (λ m h. record { sets = rw told at (h .sets); size = h .size; waits = h .waits ∙ told; words = rw told at (h .words) })
     (λ m new h. ap (λ (w : Waiting). poll w new m) (sym told))
 
 pub poll-spec : {M : Type 1} → statement M

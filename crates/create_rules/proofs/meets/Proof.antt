@@ -1,47 +1,56 @@
--- `create_rules::meets` meets its contract. The loop's invariant: the flag says whether a region passed is in conflict with one of the
--- record's. The array has as many elements as places, so the loop passes those that the count names. Assumes nothing.
-use mathlib.Core.Path.{_≡_, ap, _∙_}
+-- `create_rules::meets` meets its contract. The loop's invariant: the flag says whether a region of the record that was passed is in conflict with
+-- one of the cell's. Whichever of the two is looked at first, the same pairs are. Assumes nothing.
+use mathlib.Core.Path.{_≡_, sym, ap, _∙_}
 use mathlib.Core.Bool.{Bool}
 use mathlib.Core.List.{List}
 use Prim.Native.Nat.{ℕ, _≤_, _-_}
 use native.Mathlib.Omega.{arith}
-use lib.ListN.{length, take, length-map}
+use denote.Ref.{now}
+use lib.ListN.{take}
 use Rattle.base.specs.Lists.{any}
-use Rattle.base.proofs.Lists.{any-none, any-turn, take-used}
 use Rattle.regions.specs.declared.MemRegion.{MemRegion}
-use Rattle.region_table.specs.Tables.{maxRegions}
+use Rattle.region_table.specs.Tables.{regionsOf}
+use Rattle.region_table.proofs.Laws.{any-no-region, any-regions}
 use Rattle.cell_record.specs.CellRecord.{cellOf, cellRegions}
+use Rattle.cell_record.proofs.Laws.{record-regions}
 use Rattle.rules.specs.Create.{conflict, conflicts}
+use Rattle.create_rules.proofs.Laws.{any-exchange}
 use borrow.Author.Needs.{needs}
 use Rattle.create_rules.proofs.meets.Statement.{statement}
 use Rattle.create_rules.proofs.meets.Tie as tie
 
-abbrev with-record : List ℕ → MemRegion → Bool
-with-record bytes r = any (conflict r) (cellRegions (cellOf bytes))
+abbrev met-by : List MemRegion → MemRegion → Bool
+met-by rs s = any (λ r. conflict r s) rs
 
 abbrev Inv-loop : tie.InvT-loop
-Inv-loop bytes table n found₀ i₀ found i = (i ≤ n) × (found ≡ any (with-record bytes) (take i table))
+Inv-loop c bytes table n found₀ i₀ found i = (i ≤ n) × (found ≡ any (met-by (take (c .«region_count») table)) (regionsOf 56 i bytes))
 
 abbrev μ-loop : tie.MeasureT-loop
-μ-loop bytes table n found₀ i₀ found i = n - i
+μ-loop c bytes table n found₀ i₀ found i = n - i
 
 loop-holds : tie.Need-loop-holds Inv-loop μ-loop
-loop-holds c = (search needs, any-none _ (c .before .before .before .args .c .regions))
+loop-holds c = (search needs, any-no-region _ _ _)
 
 loop-again : tie.Need-loop-again Inv-loop μ-loop
 loop-again c =
-    let entry = c .before .before .before .before .before .before .before in
     let l = c .before .before .before .loop in
-    let size : length (entry .args .c .regions) ≡ maxRegions = simp length-map at (entry .good .0 .1 .1 .1 .1 .1 .1 .0 .1 .0 .1) in
-    (search needs, any-turn _ (entry .args .c .regions) _ _ _ _ (l .inv .1) (c .conflicts-one .ensures) (omega arith))
+    let a = c .before .before .before .before .before .before .before .args in (
+      search needs,
+      any-regions _ _ (l .i) (met-by (take (a .c .«region_count») (a .c .regions))) _ _ (l .inv .1)
+          (c .conflicts-one .ensures ∙ ap (met-by (take (a .c .«region_count») (a .c .regions))) (c .before .region .ensures)),
+    )
 
 returns : tie.Need-returns Inv-loop μ-loop
 unfolding conflicts
 returns c =
-    let entry = c .before .before .before .before .before in
     let l = c .before .loop in
-    let size : length (entry .args .c .regions) ≡ maxRegions = simp length-map at (entry .good .0 .1 .1 .1 .1 .1 .1 .0 .1 .0 .1) in
-    l .inv .1 ∙ ap (any _) (take-used _ _ _ _ (l .i) size (c .before .before .used .ensures) (l .inv .0) (c .loop-test .left))
+    let n = c .before .before .region-count in
+    let a = c .before .before .before .before .before .args in
+    let rs = take (a .c .«region_count») (a .c .regions) in
+    let bytes = now (a .«record») in
+    let end : l .i ≡ n .result = omega arith in
+    l .inv .1 ∙ ap (λ (k : ℕ). any (met-by rs) (regionsOf 56 k bytes)) (end ∙ n .ensures) ∙ ap (any (met-by rs)) (sym (record-regions bytes))
+    ∙ any-exchange conflict rs (cellRegions (cellOf bytes))
 
 pub meets-spec : {M : Type 1} → statement M
-meets-spec = tie.close (tie.spec Inv-loop μ-loop (λ c κs. search needs) loop-holds (λ c. search needs) (λ c. search needs) (λ c κs. search needs) (λ c. search needs) (λ c. search needs) loop-again returns)
+meets-spec = tie.close (tie.spec Inv-loop μ-loop (λ c κs. search needs) loop-holds (λ c κs. search needs) (λ c κs. search needs) (λ c. search needs) (λ c. search needs) loop-again returns)

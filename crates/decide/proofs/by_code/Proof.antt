@@ -1,9 +1,9 @@
 -- `decide::by_code` meets its contract: by its code. Assumes nothing.
-use mathlib.Core.Path.{_∙_}
+use mathlib.Core.Path.{refl, _∙_}
 use mir.Syntax.{w32}
 use mir.Facts.{toZ-ofZ}
 use Rattle.rules.specs.Effects.{counted, callCounter}
-use Rattle.decide.proofs.Calls.{calls-by, counted-parts, with-words, with-waiting, code-disable, code-create, code-start, code-loadable, code-destroy, at-code}
+use Rattle.decide.proofs.Calls.{calls-by, counted-parts, with-sets, with-waiting, code-disable, code-create, code-start, code-loadable, code-destroy, at-code}
 use borrow.Author.Needs.{needs}
 use Rattle.decide.proofs.by_code.Statement.{statement}
 use Rattle.decide.proofs.by_code.Tie as tie
@@ -11,7 +11,7 @@ use Rattle.decide.proofs.by_code.Tie as tie
 returns : tie.Need-returns
 returns c bytes =
     let a = c .before .before .args in
-    calls-by (c .ask .ensures) (λ m h. with-words _ (counted-parts (a .cpu) m (h .parts)))
+    calls-by (c .ask .ensures) (λ m h. with-sets 0 refl (c .before .if1 .taken) h)
     (λ m h. code-disable (a .cpu) (a .a1) (a .a2) _ _ ∙ at-code (a .cpu) (a .a1) (a .a2) _ _ (c .before .if1 .taken))
 
 returns-2 : tie.Need-returns-2
@@ -21,7 +21,7 @@ returns-2 c bytes =
     let made = c .create-call .ensures (a .cpu) bytes in
     record {
       moves = λ m h. made .moves (counted callCounter (a .cpu) m)
-          (with-waiting _ (counted-parts (a .cpu) m (h .parts)), toZ-ofZ {w = w32} {z = a .scan} (entry .fits .scan) ∙ h .scan (c .before .if2 .taken))
+          (with-waiting 1 refl (c .before .if2 .taken) h, toZ-ofZ {w = w32} {z = a .scan} (entry .fits .scan) ∙ h .scan (c .before .if2 .taken))
           ∙ code-create (a .cpu) (a .a1) (a .a2) _ _ ∙ at-code (a .cpu) (a .a1) (a .a2) _ _ (c .before .if2 .taken);
       place = made .place;
     }
@@ -29,19 +29,19 @@ returns-2 c bytes =
 returns-3 : tie.Need-returns-3
 returns-3 c bytes =
     let a = c .before .before .before .before .args in
-    calls-by (c .target-call .ensures) (λ m h. with-waiting _ (counted-parts (a .cpu) m (h .parts)))
+    calls-by (c .target-call .ensures) (λ m h. with-waiting 2 refl (c .before .if3 .taken) h)
     (λ m h. code-start (a .cpu) (a .a1) (a .a2) _ _ ∙ at-code (a .cpu) (a .a1) (a .a2) _ _ (c .before .if3 .taken))
 
 returns-4 : tie.Need-returns-4
 returns-4 c bytes =
     let a = c .before .before .before .before .before .args in
-    calls-by (c .target-call2 .ensures) (λ m h. with-waiting _ (counted-parts (a .cpu) m (h .parts)))
+    calls-by (c .target-call2 .ensures) (λ m h. with-waiting 3 refl (c .before .if4 .taken) h)
     (λ m h. code-loadable (a .cpu) (a .a1) (a .a2) _ _ ∙ at-code (a .cpu) (a .a1) (a .a2) _ _ (c .before .if4 .taken))
 
 returns-5 : tie.Need-returns-5
 returns-5 c bytes =
     let a = c .before .before .before .before .before .before .args in
-    calls-by (c .target-call3 .ensures) (λ m h. with-waiting _ (counted-parts (a .cpu) m (h .parts)))
+    calls-by (c .target-call3 .ensures) (λ m h. with-waiting 4 refl (c .before .if5 .taken) h)
     (λ m h. code-destroy (a .cpu) (a .a1) (a .a2) _ _ ∙ at-code (a .cpu) (a .a1) (a .a2) _ _ (c .before .if5 .taken))
 
 returns-6 : tie.Need-returns-6

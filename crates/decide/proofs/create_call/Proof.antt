@@ -14,7 +14,7 @@ returns c caller bytes =
     let tested = c .before .before in
     record {
       moves = λ m h. c .ask .ensures .moves m _ (h .0 .parts)
-          ∙ create-asks caller bytes m _ (h .1) _ (c .before .free-id .ensures m (h .0 .parts .ids)) (tested .if1 .taken);
+          ∙ create-asks caller bytes m _ (h .1) _ (c .before .free-id .ensures m (h .0 .ids)) (tested .if1 .taken);
       place = c .ask .ensures .place;
     }
 

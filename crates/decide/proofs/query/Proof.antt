@@ -1,7 +1,6 @@
 -- `decide::query` meets its contract: by its code. Assumes nothing.
 use mathlib.Core.Path.{_≡_, ap, _∙_}
 use native.Mathlib.Omega.{arith}
-use Rattle.system_record.specs.declared.SystemConfig.{SystemConfig}
 use Rattle.machine_state.specs.declared.Answer.{Answer}
 use Rattle.rules.specs.State.{answered, withCpus}
 use Rattle.rules.specs.Effects.{counted, callCounter}
@@ -12,7 +11,7 @@ use Rattle.decide.proofs.query.Tie as tie
 
 returns : tie.Need-returns
 unfolding counted withCpus
-returns c table waiting bytes scan m h =
+returns c cells waiting bytes scan m h =
     let a = c .before .before .args in
     let next = counted callCounter (a .cpu) m in
     ap (λ (r : Answer). answered r next) (c .get-info .ensures next (h .parts .pool) (h .parts .remap) (h .parts .used) (h .parts .ids))
@@ -20,7 +19,7 @@ returns c table waiting bytes scan m h =
 
 returns-2 : tie.Need-returns-2
 unfolding counted withCpus
-returns-2 c table waiting bytes scan m h =
+returns-2 c cells waiting bytes scan m h =
     let a = c .before .before .before .args in
     let next = counted callCounter (a .cpu) m in
     ap (λ (r : Answer). answered r next) (c .get-state .ensures next (h .parts .ids) (h .words))
@@ -28,7 +27,7 @@ returns-2 c table waiting bytes scan m h =
 
 returns-3 : tie.Need-returns-3
 unfolding counted withCpus
-returns-3 c table waiting bytes scan m h =
+returns-3 c cells waiting bytes scan m h =
     let a = c .before .before .before in
     let b = a .args in
     let code : b .code ≡ 7 = omega arith in

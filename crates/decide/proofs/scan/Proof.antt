@@ -3,57 +3,61 @@
 use mathlib.Core.Path.{refl, _∙_}
 use mir.Syntax.{w32}
 use mir.Facts.{toZ-ofZ}
-use Rattle.rules.specs.State.{withCpus}
+use Rattle.rules.specs.State.{withCpus, active}
+use Rattle.rules.specs.Create.{otherCellLocked, regionInUse}
 use Rattle.rules.specs.Effects.{counted, callCounter}
+use Rattle.create_rules.specs.Looks.{foundLive}
 use Rattle.decide.specs.Decide.{scanOf}
-use Rattle.decide.proofs.Scans.{scanned, scan-at, scan-create, scan-other, scan-fails, scan-holds, fault-found}
+use Rattle.decide.proofs.Scans.{scanned, scan-at, create-asked, scan-create, scan-other, scan-fails, scan-holds, fault-found}
 use borrow.Author.Needs.{needs}
 use Rattle.decide.proofs.scan.Statement.{statement}
 use Rattle.decide.proofs.scan.Tie as tie
 
 returns : tie.Need-returns
-unfolding counted withCpus
+unfolding counted withCpus foundLive regionInUse otherCellLocked active
 returns c =
     let tested = c .before in
     let told = tested .before .before .e .given .1 in
     let entry = tested .before .before .before .before .before in
     let r = c .refusal in
-    scanned _ _ _ _ _ _ _ (entry .good .1 .1 .1 .1 .0 .1 .0 .1) (entry .good .1 .1 .1 .1 .1 .0 .1 .0 .1) (entry .good .1 .1 .1 .1 .1 .1 .0 .1 .0 .1)
+    let asked = create-asked _ _ _ _ told (tested .if1 .taken) in
+    scanned _ _ _ _ _ (entry .good .1 .1 .1 .1 .0 .1 .0 .1)
     (λ m h. toZ-ofZ {w = w32} {z = r .result} (record { sfits = r .ok })
-    ∙ scan-at _ m _ told (scan-create _ m _ _ _ _ _ (tested .if1 .taken) (r .ensures (counted callCounter _ m) (h .system) (h .used) (h .ids) (h .rootCpus) (h .cells) (h .words))))
+    ∙ scan-at _ m _ told (scan-create _ m _ _ _ _ _ (tested .if1 .taken)
+    (r .ensures (counted callCounter _ m) (h .system) (h .used) (h .ids) (h .rootCpus) (h .locked asked) (h .found asked))))
 
 returns-3 : tie.Need-returns-3
 returns-3 c =
     let entry = c .before .before .before .before .before in
-    scanned _ _ _ _ _ _ _ (entry .good .1 .1 .1 .1 .0 .1 .0 .1) (entry .good .1 .1 .1 .1 .1 .0 .1 .0 .1) (entry .good .1 .1 .1 .1 .1 .1 .0 .1 .0 .1)
+    scanned _ _ _ _ _ (entry .good .1 .1 .1 .1 .0 .1 .0 .1)
     (λ m h. scan-at _ m _ (c .before .before .e .given .1) (scan-other _ m _ _ _ _ (c .if1 .left)))
 
 returns-5 : tie.Need-returns-5
 unfolding scanOf
 returns-5 c =
     let entry = c .before .before .before in
-    scanned _ _ _ _ _ _ _ (entry .good .1 .1 .1 .1 .0 .1 .0 .1) (entry .good .1 .1 .1 .1 .1 .0 .1 .0 .1) (entry .good .1 .1 .1 .1 .1 .1 .0 .1 .0 .1)
+    scanned _ _ _ _ _ (entry .good .1 .1 .1 .1 .0 .1 .0 .1)
     (λ m h. scan-at _ m _ (c .enum-told .given .1) refl)
 
 returns-6 : tie.Need-returns-6
 unfolding scanOf
 returns-6 c =
     let entry = c .before .before .before in
-    scanned _ _ _ _ _ _ _ (entry .good .1 .1 .1 .1 .0 .1 .0 .1) (entry .good .1 .1 .1 .1 .1 .0 .1 .0 .1) (entry .good .1 .1 .1 .1 .1 .1 .0 .1 .0 .1)
+    scanned _ _ _ _ _ (entry .good .1 .1 .1 .1 .0 .1 .0 .1)
     (λ m h. scan-at _ m _ (c .enum-told2 .given .1) refl)
 
 returns-7 : tie.Need-returns-7
 unfolding scanOf
 returns-7 c =
     let entry = c .before .before .before in
-    scanned _ _ _ _ _ _ _ (entry .good .1 .1 .1 .1 .0 .1 .0 .1) (entry .good .1 .1 .1 .1 .1 .0 .1 .0 .1) (entry .good .1 .1 .1 .1 .1 .1 .0 .1 .0 .1)
+    scanned _ _ _ _ _ (entry .good .1 .1 .1 .1 .0 .1 .0 .1)
     (λ m h. scan-at _ m _ (c .enum-told3 .given .1) refl)
 
 returns-8 : tie.Need-returns-8
 unfolding scanOf
 returns-8 c =
     let entry = c .before .before .before in
-    scanned _ _ _ _ _ _ _ (entry .good .1 .1 .1 .1 .0 .1 .0 .1) (entry .good .1 .1 .1 .1 .1 .0 .1 .0 .1) (entry .good .1 .1 .1 .1 .1 .1 .0 .1 .0 .1)
+    scanned _ _ _ _ _ (entry .good .1 .1 .1 .1 .0 .1 .0 .1)
     (λ m h. scan-at _ m _ (c .enum-told4 .given .1) refl)
 
 returns-2 : tie.Need-returns-2
@@ -61,7 +65,7 @@ returns-2 c =
     let f = c .before in
     let told = f .before .before .before .e2 .given .1 in
     let entry = f .before .before .before .before .before .before in
-    scanned _ _ _ _ _ _ _ (entry .good .1 .1 .1 .1 .0 .1 .0 .1) (entry .good .1 .1 .1 .1 .1 .0 .1 .0 .1) (entry .good .1 .1 .1 .1 .1 .1 .0 .1 .0 .1)
+    scanned _ _ _ _ _ (entry .good .1 .1 .1 .1 .0 .1 .0 .1)
     (λ m h. scan-at _ m _ told (scan-fails _ m _ _ (fault-found m _ _ _ told (f .before .cpu-index .ensures) h (f .cell-fails .ensures)) (c .if2 .taken)))
 
 returns-4 : tie.Need-returns-4
@@ -69,7 +73,7 @@ returns-4 c =
     let f = c .before in
     let told = f .before .before .before .e2 .given .1 in
     let entry = f .before .before .before .before .before .before in
-    scanned _ _ _ _ _ _ _ (entry .good .1 .1 .1 .1 .0 .1 .0 .1) (entry .good .1 .1 .1 .1 .1 .0 .1 .0 .1) (entry .good .1 .1 .1 .1 .1 .1 .0 .1 .0 .1)
+    scanned _ _ _ _ _ (entry .good .1 .1 .1 .1 .0 .1 .0 .1)
     (λ m h. scan-at _ m _ told (scan-holds _ m _ _ (fault-found m _ _ _ told (f .before .cpu-index .ensures) h (f .cell-fails .ensures)) (c .if2 .left)))
 
 pub scan-spec : {M : Type 1} → statement M

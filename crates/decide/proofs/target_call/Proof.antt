@@ -24,7 +24,7 @@ returns-2 c =
     let a = c .before .before .before .before .args in
     moves-as (c .stay2 .ensures) (λ m h. h .waits)
     (λ m new h. target-absent (a .kind) (a .id) new m (c .before .before .before .if1 .left)
-    (absent m (a .id) _ _ _ (h .parts .ids) (c .before .before .is-live .ensures) (c .before .if2 .taken)))
+    (absent m (a .id) _ _ _ (h .ids) (c .before .before .is-live .ensures) (c .before .if2 .taken)))
 
 returns-3 : tie.Need-returns-3
 returns-3 c =
@@ -32,9 +32,9 @@ returns-3 c =
     let a = first .before .before .before .args in
     moves-as (c .stay3 .ensures) (λ m h. h .waits)
     (λ m new h. target-locked (a .kind) (a .id) new m (first .before .before .if1 .left)
-    (absent m (a .id) _ _ _ (h .parts .ids) (first .before .is-live .ensures) (first .if2 .left))
+    (absent m (a .id) _ _ _ (h .ids) (first .before .is-live .ensures) (first .if2 .left))
     (sym (ap₂ (λ (x y : Bool). x && y) (c .before .before .before .is-destroy .ensures)
-    (c .before .before .is-locked-but .ensures m (h .parts .ids) (h .parts .words))) ∙ c .before .if3 .taken))
+    (c .before .before .is-locked-but .ensures m (h .parts .sets .locked))) ∙ c .before .if3 .taken))
 
 returns-4 : tie.Need-returns-4
 returns-4 c =
@@ -42,9 +42,9 @@ returns-4 c =
     let a = first .before .before .before .args in
     moves-as (c .ask .ensures) (λ m h. h .parts)
     (λ m new h. target-asks (a .kind) (a .id) new m (first .before .before .if1 .left)
-    (absent m (a .id) _ _ _ (h .parts .ids) (first .before .is-live .ensures) (first .if2 .left))
+    (absent m (a .id) _ _ _ (h .ids) (first .before .is-live .ensures) (first .if2 .left))
     (sym (ap₂ (λ (x y : Bool). x && y) (c .before .before .before .is-destroy .ensures)
-    (c .before .before .is-locked-but .ensures m (h .parts .ids) (h .parts .words))) ∙ c .before .if3 .left))
+    (c .before .before .is-locked-but .ensures m (h .parts .sets .locked))) ∙ c .before .if3 .left))
 
 pub target-call-spec : {M : Type 1} → statement M
 target-call-spec = tie.close (tie.spec (λ c κs. search needs) returns (λ c κs. search needs) (λ c κs. search needs) returns-2 (λ c κs. search needs) (λ c κs. search needs) (λ c κs. search needs) returns-3 (λ c κs. search needs) returns-4)

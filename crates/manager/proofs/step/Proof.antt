@@ -3,7 +3,7 @@ use mathlib.Core.Path.{refl, _∙_}
 use mir.Syntax.{w32}
 use mir.Facts.{toZ-ofZ}
 use Rattle.rules.specs.State.{withCpus, withComm, answered}
-use Rattle.manager.proofs.Laws.{scan-parts, all-parts, applied}
+use Rattle.manager.proofs.Laws.{sets-there, scan-parts, all-parts, applied}
 use borrow.Author.Needs.{needs}
 use Rattle.manager.proofs.step.Statement.{statement}
 use Rattle.manager.proofs.step.Tie as tie
@@ -17,23 +17,27 @@ returns c =
     let touch = cut .before in
     let decided = touch .before .before .before in
     let scanned = decided .before .before .before in
-    let at = scanned .before .before in
+    let locks = scanned .before in
+    let found = locks .before in
+    let locked = found .before in
+    let messages = locked .before in
+    let look = messages .before in
+    let sizes = look .before in
+    let at = sizes .before .before in
     let own = at .before in
     let asked = own .before .before in
     let cpu = asked .before .before in
     let entry = cpu .before .before .before .before .before .before in
     let m = entry .args .t1 in
-    let found = scanned .scan .ensures in
-    let says = found .found m (scan-parts m _ _ _ (cpu .cpu-for .ensures) (at .words-for .ensures) _ (own .cell-index .ensures)) in
+    let sets = sets-there m _ _ _ (record { messageable = messages .messageable .result; locked = locked .locked .result }) (look .looks .ensures) (messages .messageable .ensures) (locked .locked .ensures) in
+    let says =
+    scanned .scan .ensures .found m
+    (scan-parts m _ _ _ (cpu .cpu-for .ensures) (at .words-for .ensures) _ _ _ _ _ (own .cell-index .ensures) sets (locks .is-locked-but .ensures)
+    (λ t. found .look-through .ensures m refl refl t)) in
     let back = toZ-ofZ {w = w32} {z = scanned .scan .result} (record { sfits = scanned .scan .ok }) in
     applied (decided .decide .result) _ m _ _ _ _ _ (touch .change-cpu .ensures) (cut .cut-off .ensures) (effect .carry-out .ensures) (words .change-words .ensures) (c .with-waiting .ensures)
     ∙ decided .decide .ensures .settles _ m
-    (refl, all-parts m _ _ _ (cpu .cpu-for .ensures) (at .words-for .ensures) _ _ _ _ (asked .asked-for .ensures) (found .words) (found .cpus) back says)
+    (refl, all-parts m _ _ _ (cpu .cpu-for .ensures) (at .words-for .ensures) _ _ _ _ _ sets (asked .asked-for .ensures) (sizes .table-sizes .ensures .commTable) (scanned .scan .ensures .cpus) back says)
 
 pub step-spec : {M : Type 1} → statement M
-step-spec =
-    tie.close
-    (tie.spec (λ c κs. search needs) (λ c. search needs) (λ c. search needs) (λ c κs. search needs) (λ c. search needs) (λ c. search needs) (λ c κs. search needs)
-    (λ c κs. search needs) (λ c. search needs) (λ c. search needs) (λ c. search needs) (λ c. search needs) (λ c κs. search needs) (λ c κs. search needs)
-    (λ c. search needs) (λ c. search needs) (λ c κs. search needs) (λ c. search needs) (λ c. search needs) (λ c κs. search needs) (λ c κs. search needs)
-    (λ c. search needs) (λ c. search needs) (λ c κs. search needs) (λ c. search needs) (λ c. search needs) (λ c κs. search needs) returns)
+step-spec = tie.close (tie.spec (λ c κs. search needs) (λ c. search needs) (λ c. search needs) (λ c κs. search needs) (λ c. search needs) (λ c. search needs) (λ c κs. search needs) (λ c κs. search needs) (λ c. search needs) (λ c. search needs) (λ c κs. search needs) (λ c κs. search needs) (λ c κs. search needs) (λ c κs. search needs) (λ c κs. search needs) (λ c. search needs) (λ c. search needs) (λ c κs. search needs) (λ c κs. search needs) (λ c κs. search needs) (λ c. search needs) (λ c. search needs) (λ c κs. search needs) (λ c. search needs) (λ c. search needs) (λ c κs. search needs) (λ c κs. search needs) (λ c. search needs) (λ c. search needs) (λ c κs. search needs) (λ c. search needs) (λ c. search needs) (λ c κs. search needs) returns)

@@ -1,0 +1,21 @@
+-- `create_rules::look` meets its contract: it is the definition, with what its parts ensure. Assumes nothing.
+use mathlib.Core.Path.{ap}
+use mathlib.Core.Bool.{Bool, _||_}
+use Rattle.create_rules.specs.Looks.{together, lookedAt}
+use borrow.Author.Needs.{needs}
+use Rattle.create_rules.proofs.look.Statement.{statement}
+use Rattle.create_rules.proofs.look.Tie as tie
+
+returns : tie.Need-returns
+unfolding together lookedAt
+returns c =
+    let met = c .before in
+    let named = met .before .before in
+    let found = named .before .before .args .found in
+    λ i. record {
+      named = ap (λ (b : Bool). found .named || b) (named .has-name .ensures) i;
+      held = ap (λ (b : Bool). found .held || b) (met .meets .ensures) i;
+    }
+
+pub look-spec : {M : Type 1} → statement M
+look-spec = tie.close (tie.spec (λ c κs. search needs) (λ c κs. search needs) returns)
