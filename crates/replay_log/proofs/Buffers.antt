@@ -153,13 +153,7 @@ kept-bytes line len n size e = ap (λ (k : ℕ). take k line) (e ∙ ap (min len
 pub begun-short : (line : List ℕ) (len : ℕ) → len ≤ keptBytes → length (take len line) ≤ keptBytes
 begun-short line len h = let e = length-take len line in omega arith
 
--- every turn takes some of the log
-pub less-end : (given at end : ℕ) → at < given → given ≤ end → given - end < given - at
-less-end given at end h e = omega arith
-
-pub less-turn : (given at end more : ℕ) → end ≡ at + more → end < given → given - (end + 1) < given - at
-less-turn given at end more e h = omega arith
-
+-- a line that ends leaves its line feed behind
 pub next-inside : (end given : ℕ) → end < given → end + 1 ≤ given
 next-inside end given h = omega arith
 
