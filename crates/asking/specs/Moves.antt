@@ -2,7 +2,7 @@
 -- cell, and the call that waits then.
 use mathlib.Core.Bool.{Bool, true, false, _||_}
 use mathlib.Core.Path.{_≡_}
-use Prim.Native.Nat.{ℕ, _≤_, _<_}
+use Prim.Native.Nat.{ℕ, _<_}
 use lib.Dec.{ltb}
 use lib.ListN.{length}
 use Rattle.cell_record.specs.declared.CellConfig.{CellConfig}
@@ -14,7 +14,7 @@ use Rattle.machine_state.specs.declared.Waiting.the-variants.{NoCall, Pending}
 use Rattle.machine_state.specs.declared.Machine.{Machine}
 use Rattle.machine_state.specs.declared.Stepped.{Stepped}
 use Rattle.machine_state.specs.Machine.{maxCells}
-use Rattle.rules.specs.State.{commAt, limitAt, noId, withWaiting, answered}
+use Rattle.rules.specs.State.{commAt, noId, withWaiting, answered}
 use Rattle.rules.specs.Effects.{effect, cellCutOff}
 use Rattle.rules.specs.Asking.{reconfigCompleted, telling, waitFor, finished, endCode, isHeard, isLastPoll}
 use Rattle.comms.specs.declared.CellSets.{CellSets}
@@ -63,11 +63,6 @@ pub record Polls (cells : CellSets) (w : CommRegion) (waiting : Waiting) (m : Ma
   pub size : length (m .comms) ≡ maxCells
   pub waits : m .waiting ≡ waiting
   pub words : commAt m (cellIndex (waitedCell waiting)) ≡ w
-
--- the limit of a cell, from the words at its place; there is none past the table's end
-pub record LimitFor (cell : ℕ) (w : CommRegion) (limit : ℕ) : Type 0 where
-  pub own : (m : Machine) → length (m .comms) ≡ maxCells → commAt m (cellIndex cell) ≡ w → limit ≡ limitAt m cell
-  pub past : maxCells ≤ cell → limit ≡ 0
 
 -- a poll cuts a cell off, or none: a number past the table names none
 unfoldable pub cutOffAt : ℕ → Machine → Machine

@@ -3,11 +3,11 @@
 ghost use mathlib.Core.Path.{_≡_};
 ghost use mathlib.Core.Bool.{false};
 ghost use Prim.Native.Nat.{ℕ, _<_};
-ghost use Rattle.rules.specs.State.{limitAt, answered};
+ghost use Rattle.rules.specs.State.{withWaiting, answered};
 ghost use Rattle.rules.specs.Effects.{cellCutOff};
-ghost use Rattle.rules.specs.Asking.{asks, tells as tells-of, isDestroy, endCode, waitFor, finished, carryOut, noneToAsk, ask as ask-of, hear as hear-of, isLastPoll, pollsAfter, stillWaits, pollCell, poll as poll-of};
+ghost use Rattle.rules.specs.Asking.{asks, tells as tells-of, isDestroy, endCode, waitFor, finished, carryOut, noneToAsk, ask as ask-of, isHeard, hear as hear-of, isLastPoll, pollCell, poll as poll-of};
 ghost use Rattle.comms.specs.Comms.{among};
-ghost use Rattle.asking.specs.Moves.{effectOf, AnyMachine, WithSets, Hears, pollLooks, Polls, tellNext, Moves, LimitFor, PollMoves};
+ghost use Rattle.asking.specs.Moves.{effectOf, AnyMachine, WithSets, Hears, pollLooks, Polls, tellNext, Moves, PollMoves};
 use base::EPERM;
 use comms::CellSets;
 use comms::Whom;
@@ -39,30 +39,31 @@ pub struct Move {
     pub waiting: Waiting,
 }
 
-// An answer that changes nothing; `waiting` is the call that waits already.
-pub fn stay(answer: Answer, waiting: Waiting) -> Move
-    ensures { λ r. ⌜ Moves (λ m. m .waiting ≡ waiting) (λ new m. answered answer m) r ⌝ }
+// A move that changes no words.
+fn keep_words(answer: Answer, effect: Effect, waiting: Waiting) -> Move
+    ensures { λ r. ⌜ Moves AnyMachine (λ new m. answered answer (withWaiting waiting (effectOf effect new m))) r ⌝ }
 {
     Move {
         answer,
-        effect: Effect::NoEffect,
+        effect,
         cell: 0,
         words: WordsChange::Keep,
         waiting,
     }
 }
 
+// An answer that changes nothing; `waiting` is the call that waits already.
+pub fn stay(answer: Answer, waiting: Waiting) -> Move
+    ensures { λ r. ⌜ Moves (λ m. m .waiting ≡ waiting) (λ new m. answered answer m) r ⌝ }
+{
+    keep_words(answer, Effect::NoEffect, waiting)
+}
+
 // The end of a call, with its code.
 fn finish(code: i32, effect: Effect) -> Move
     ensures { λ r. ⌜ Moves AnyMachine (λ new m. finished code (effectOf effect new m)) r ⌝ }
 {
-    Move {
-        answer: Answer::Code(code),
-        effect,
-        cell: 0,
-        words: WordsChange::Keep,
-        waiting: Waiting::NoCall,
-    }
+    keep_words(Answer::Code(code), effect, Waiting::NoCall)
 }
 
 // A message to the stage's cell, for which the call then waits.
@@ -216,42 +217,6 @@ fn is_last_poll(limit: u16, polls: u16) -> bool
     !(limit == 0) & (limit as u32 <= polls as u32 + 1)
 }
 
-// The reply limit of the cell `cell`, at whose place the words `w` stand; none past the table's end.
-fn limit_for(cell: usize, w: CommRegion) -> u16
-    ensures { λ r. ⌜ LimitFor cell w r ⌝ }
-{
-    if cell < MAX_CELLS { w.reply_limit } else { 0 }
-}
-
-// The count after a poll that is not the last, where there is a limit.
-fn polls_after(limit: u16, polls: u16) -> u16
-    requires { ⌜ isLastPoll limit polls ≡ false ⌝ }
-    ensures { λ r. ⌜ r ≡ pollsAfter limit polls ⌝ }
-{
-    if limit == 0 { polls } else { polls + 1 }
-}
-
-// A poll that hears nothing and is not the last: it is counted, where there is a limit.
-fn still_waits(kind: CallKind, stage: Stage, limit: u16) -> Move
-    requires { ⌜ isLastPoll limit (stage .polls) ≡ false ⌝ }
-    ensures { λ r. ⌜ Moves (λ m. limitAt m (stage .cell) ≡ limit) (λ new m. answered (Answer.Wait (stage .cell)) (stillWaits kind stage m)) r ⌝ }
-{
-    let cell = stage.cell;
-    let next = Stage {
-        target: stage.target,
-        cell,
-        telling: stage.telling,
-        polls: polls_after(limit, stage.polls),
-    };
-    Move {
-        answer: Answer::Wait(cell),
-        effect: Effect::NoEffect,
-        cell: 0,
-        words: WordsChange::Keep,
-        waiting: Waiting::Pending(kind, next),
-    }
-}
-
 // What a poll does: the cell that its limit cuts off, `MAX_CELLS` for none, and then the move.
 pub struct Polled {
     pub cut: usize,
@@ -272,26 +237,52 @@ fn cut_off(cells: CellSets, w: CommRegion, kind: CallKind, stage: Stage) -> Poll
     }
 }
 
+// A poll that hears nothing from a cell with a limit, whose words are `w`: the last one cuts the cell
+// off, and any other is counted.
+fn unheard(cells: CellSets, w: CommRegion, kind: CallKind, stage: Stage) -> Polled
+    requires { ⌜ (stage .cell < 16) × (isHeard w ≡ false) × (w .«reply_limit» ≡ 0 → ⊥) ⌝ }
+    ensures { λ r. ⌜ PollMoves (Polls cells w (Waiting.Pending kind stage)) (pollCell kind stage) r ⌝ }
+{
+    if is_last_poll(w.reply_limit, stage.polls) {
+        return cut_off(cells, w, kind, stage);
+    }
+    let mut next = stage;
+    next.polls = stage.polls + 1;
+    Polled {
+        cut: MAX_CELLS,
+        moves: keep_words(
+            Answer::Wait(stage.cell),
+            Effect::NoEffect,
+            Waiting::Pending(kind, next),
+        ),
+    }
+}
+
 // A poll of a waiting call: looks at the cell waited for, at whose place the words `w` stand.
 fn poll_cell(cells: CellSets, w: CommRegion, kind: CallKind, stage: Stage) -> Polled
     ensures { λ r. ⌜ PollMoves (Polls cells w (Waiting.Pending kind stage)) (pollCell kind stage) r ⌝ }
 {
     let cell = stage.cell;
-    let limit = limit_for(cell, w);
-    let last = is_last_poll(limit, stage.polls);
-    if (cell < MAX_CELLS) & comms::is_heard(w) {
+    let limit = w.reply_limit;
+    if MAX_CELLS <= cell {
+        return Polled {
+            cut: MAX_CELLS,
+            moves: stay(Answer::Wait(cell), Waiting::Pending(kind, stage)),
+        };
+    }
+    if comms::is_heard(w) {
         return Polled {
             cut: MAX_CELLS,
             moves: hear(cells, w, kind, stage),
         };
     }
-    if last {
-        return cut_off(cells, w, kind, stage);
+    if limit == 0 {
+        return Polled {
+            cut: MAX_CELLS,
+            moves: stay(Answer::Wait(cell), Waiting::Pending(kind, stage)),
+        };
     }
-    Polled {
-        cut: MAX_CELLS,
-        moves: still_waits(kind, stage, limit),
-    }
+    unheard(cells, w, kind, stage)
 }
 
 // Whether a poll looks at other cells than the one waited for, at whose place the words `w` stand.
