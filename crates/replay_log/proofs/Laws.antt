@@ -224,12 +224,6 @@ pub end-none : (m : Machine) (begun : List ℕ) → begun ≡ [] → textAtEnd (
 unfolding endOf
 end-none m begun e = ap (λ (b : List ℕ). textAtEnd (going m b [])) e
 
-pub end-some : (m : Machine) (begun : List ℕ) → 0 < length begun → (s : Stepped) → s ≡ step (lineEvent begun) (lineRecord begun) m
-    → textAtEnd (going m begun []) ≡ answerLine (s .answer)
-unfolding endOf ended stepLine
-end-some m [] h s e = absurd (omega arith)
-end-some m (b ∷ bs) h s e = ap (λ (t : Stepped). answerLine (t .answer)) (sym e)
-
 pub text-at-end-short : (m : Machine) (begun : List ℕ) → length (textAtEnd (going m begun [])) ≤ 32
 unfolding endOf ended
 text-at-end-short m [] = omega arith

@@ -3,9 +3,13 @@
 use mathlib.Core.Path.{_≡_, refl, sym, ap, ap₂, subst, _∙_}
 use mathlib.Core.Bool.{Bool, true, false, _&&_}
 use mathlib.Core.List.{List, [], _++_}
-use Prim.Native.Nat.{ℕ, _+_, _-_, _≤_, _<_}
+use Prim.Native.Nat.{ℕ, _+_, _-_, _*_, _^_, _≤_, _<_}
 use Prim.Native.Nat.{zero-le}
 use native.Mathlib.Omega.{arith}
+use mir.Syntax.{w64}
+use mir.Val.{Fits}
+use borrow.Author.Needs.{scaled-fits}
+use borrow.Author.Tests.{ltb-true}
 use lib.Dec.{ltb, leb}
 use lib.ListN.{length, take, drop, set, length-set}
 use lib.Seq.{set-getD}
@@ -56,6 +60,10 @@ use Rattle.replay_log.proofs.Buffers.{may-go, begun-short, next-inside,
 use Rattle.replay_log.proofs.Laws.{going, goes-open, goes-on-ended}
 use Rattle.replay_log.proofs.Ranks.{parts-uncut}
 use Rattle.replay_log.proofs.Standing.{after, Places, Chosen, finished, Applies, Stores}
+
+-- the offset of an element of a table fits its type
+pub indexed : (i n size : ℕ) → i < n → ltb (n * size) (2 ^ 63) ≡ true → Fits w64 (i * size)
+indexed i n size inside small = scaled-fits i n size inside (ltb-true (n * size) (2 ^ 63) small)
 
 -- ---- reading
 

@@ -351,23 +351,20 @@ pub fn run(kept: Replay, log: &[u8], out: &mut [u8]) -> Ran
     }
 }
 
-// The end of the log: writes the answer to a last line without its line feed, if there is one, to
-// the start of `out`, and gives its length; 0 too where `out` has less room than a line may need.
+// The end of the log: a last line without its line feed, if there is one, is answered as if it had it.
+// Writes the answer to the start of `out` and gives its length; 0 too where `out` has less room than a
+// line may need.
 pub fn finish(kept: Replay, out: &mut [u8]) -> usize
     ensures { λ r. ⌜ r ≡ putCount 32 (textAtEnd (goingOf kept [])) (now (out .entry)) ⌝ }
     ensures { λ r. ⌜ now (out .exit) ≡ putLine 32 (textAtEnd (goingOf kept [])) (now (out .entry)) ⌝ }
 {
     let line = kept.line;
-    let len = begun(line, kept.len);
-    if len == 0 {
+    if begun(line, kept.len) == 0 {
         return 0;
     }
-    let m = kept.machine;
-    let mut record = [0u8; MAX_RECORD];
-    let read = lines::read_line(&line[0..len], &mut record);
-    let event = read.event;
-    let n = read.len;
-    let s = manager::step(m, event, &record[0..n]);
-    let answer = s.answer;
-    texts::put_answer(answer, out)
+    if out.len() < MAX_TEXT {
+        return 0;
+    }
+    let ran = run(kept, b"\n", out);
+    ran.written
 }

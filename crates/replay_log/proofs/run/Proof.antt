@@ -32,7 +32,7 @@ use Rattle.replay_log.proofs.Buffers.{kept-bytes}
 use Rattle.replay_log.proofs.Laws.{going}
 use Rattle.replay_log.proofs.Ranks.{measure, parts-cut, parts-uncut, less-line, less-piece, less-look, less-decide, less-cpu, less-part, less-change, less-store, less-done}
 use Rattle.replay_log.proofs.Standing.{Places, Stands, is-reading, is-looking, is-deciding, is-applying, is-storing, to-store, still-applying, still-reading, to-decide, machineIn}
-use Rattle.replay_log.proofs.Turns.{read-on, open-places, read-line, ended-places, looked, decided, decided-places, part-done, cell-changed, cell-less, all-done, cell-put, cell-kept, done-places, cpu-stored, words-stored, cell-stored, may-read, stops-reading, as-next}
+use Rattle.replay_log.proofs.Turns.{read-on, open-places, read-line, ended-places, looked, decided, decided-places, indexed, part-done, cell-changed, cell-less, all-done, cell-put, cell-kept, done-places, cpu-stored, words-stored, cell-stored, may-read, stops-reading, as-next}
 use borrow.Author.Needs.{needs}
 use Rattle.replay_log.proofs.run.Statement.{statement}
 use Rattle.replay_log.proofs.run.Tie as tie
@@ -156,13 +156,13 @@ mul-c : tie.Need-mul-c Inv-loop μ-loop
 mul-c c =
     let told = c .before in let l = told .before .before .before .before .loop in
     let more = is-looking _ _ (told .enum-told2 .given .1) (l .inv .2) .1 in
-    let inside = c .lowest .ensures .inside more in search needs
+    let inside = c .lowest .ensures .inside more in indexed _ 16 _ inside refl
 
 array-copy-out-c : tie.Need-array-copy-out-c Inv-loop μ-loop
 array-copy-out-c c =
     let told = c .before in let l = told .before .before .before .before .loop in
     let more = is-looking _ _ (told .enum-told2 .given .1) (l .inv .2) .1 in
-    let inside = c .lowest .ensures .inside more in search needs
+    let inside = c .lowest .ensures .inside more in inside
 
 part-look-end : tie.Need-part-look-end Inv-loop μ-loop
 part-look-end c =
@@ -200,16 +200,16 @@ put-requires c κs =
     (l .inv .0 .inside, is-deciding _ _ (told .enum-told3 .given .1) (l .inv .2) .0 .room)
 
 mul-change-cpu : tie.Need-mul-change-cpu Inv-loop μ-loop
-mul-change-cpu c = let made = c .before .before .before .before .before in let inside = made .decide .ensures .cpu in search needs
+mul-change-cpu c = let made = c .before .before .before .before .before in let inside = made .decide .ensures .cpu in indexed _ 64 _ inside refl
 
 array-copy-out-change-cpu : tie.Need-array-copy-out-change-cpu Inv-loop μ-loop
-array-copy-out-change-cpu c = let made = c .before .before .before .before .before in let inside = made .decide .ensures .cpu in search needs
+array-copy-out-change-cpu c = let made = c .before .before .before .before .before in let inside = made .decide .ensures .cpu in inside
 
 mul-cpus : tie.Need-mul-cpus Inv-loop μ-loop
-mul-cpus c = let made = c .before .before .before .before .before .before .before in let inside = made .decide .ensures .cpu in search needs
+mul-cpus c = let made = c .before .before .before .before .before .before .before in let inside = made .decide .ensures .cpu in indexed _ 64 _ inside refl
 
 array-set-from-cpus : tie.Need-array-set-from-cpus Inv-loop μ-loop
-array-set-from-cpus c = let made = c .before .before .before .before .before .before .before in let inside = made .decide .ensures .cpu in search needs
+array-set-from-cpus c = let made = c .before .before .before .before .before .before .before in let inside = made .decide .ensures .cpu in inside
 
 loop-less-4 : tie.Need-loop-less-4 Inv-loop μ-loop
 loop-less-4 c =
@@ -245,27 +245,27 @@ mul-change-cpu-2 : tie.Need-mul-change-cpu-2 Inv-loop μ-loop
 unfolding IsNext
 mul-change-cpu-2 c =
     let part = c .before in let next = part .before .before in let is = as-next _ _ _ _ _ _ (part .part .given .1) (next .next-part .ensures) in
-    let inside = is .0 in search needs
+    let inside = is .0 in indexed _ 64 _ inside refl
 
 array-copy-out-change-cpu-2 : tie.Need-array-copy-out-change-cpu-2 Inv-loop μ-loop
 unfolding IsNext
 array-copy-out-change-cpu-2 c =
     let part = c .before in let next = part .before .before in let is = as-next _ _ _ _ _ _ (part .part .given .1) (next .next-part .ensures) in
-    let inside = is .0 in search needs
+    let inside = is .0 in inside
 
 mul-cpus-2 : tie.Need-mul-cpus-2 Inv-loop μ-loop
 unfolding IsNext
 mul-cpus-2 c =
     let part = c .before .before .before in let next = part .before .before in
     let is = as-next _ _ _ _ _ _ (part .part .given .1) (next .next-part .ensures) in
-    let inside = is .0 in search needs
+    let inside = is .0 in indexed _ 64 _ inside refl
 
 array-set-from-cpus-2 : tie.Need-array-set-from-cpus-2 Inv-loop μ-loop
 unfolding IsNext
 array-set-from-cpus-2 c =
     let part = c .before .before .before in let next = part .before .before in
     let is = as-next _ _ _ _ _ _ (part .part .given .1) (next .next-part .ensures) in
-    let inside = is .0 in search needs
+    let inside = is .0 in inside
 
 loop-less-5 : tie.Need-loop-less-5 Inv-loop μ-loop
 unfolding IsNext
@@ -293,41 +293,41 @@ mul-failed-words : tie.Need-mul-failed-words Inv-loop μ-loop
 unfolding IsNext
 mul-failed-words c =
     let part = c .before in let next = part .before .before in let is = as-next _ _ _ _ _ _ (part .part2 .given .1) (next .next-part .ensures) in
-    let inside = subst (λ (k : ℕ). k < 16) (sym (is .1)) (is .2) in search needs
+    let inside = subst (λ (k : ℕ). k < 16) (sym (is .1)) (is .2) in indexed _ 16 _ inside refl
 
 array-copy-out-failed-words : tie.Need-array-copy-out-failed-words Inv-loop μ-loop
 unfolding IsNext
 array-copy-out-failed-words c =
     let part = c .before in let next = part .before .before in let is = as-next _ _ _ _ _ _ (part .part2 .given .1) (next .next-part .ensures) in
-    let inside = subst (λ (k : ℕ). k < 16) (sym (is .1)) (is .2) in search needs
+    let inside = subst (λ (k : ℕ). k < 16) (sym (is .1)) (is .2) in inside
 
 mul-comms : tie.Need-mul-comms Inv-loop μ-loop
 unfolding IsNext
 mul-comms c =
     let part = c .before .before .before in let next = part .before .before in
     let is = as-next _ _ _ _ _ _ (part .part2 .given .1) (next .next-part .ensures) in
-    let inside = subst (λ (k : ℕ). k < 16) (sym (is .1)) (is .2) in search needs
+    let inside = subst (λ (k : ℕ). k < 16) (sym (is .1)) (is .2) in indexed _ 16 _ inside refl
 
 array-set-from-comms : tie.Need-array-set-from-comms Inv-loop μ-loop
 unfolding IsNext
 array-set-from-comms c =
     let part = c .before .before .before in let next = part .before .before in
     let is = as-next _ _ _ _ _ _ (part .part2 .given .1) (next .next-part .ensures) in
-    let inside = subst (λ (k : ℕ). k < 16) (sym (is .1)) (is .2) in search needs
+    let inside = subst (λ (k : ℕ). k < 16) (sym (is .1)) (is .2) in inside
 
 mul-set : tie.Need-mul-set Inv-loop μ-loop
 unfolding IsNext
 mul-set c =
     let part = c .before .before .before in let next = part .before .before in
     let is = as-next _ _ _ _ _ _ (part .part2 .given .1) (next .next-part .ensures) in
-    let inside = subst (λ (k : ℕ). k < 16) (sym (is .1)) (is .2) in search needs
+    let inside = subst (λ (k : ℕ). k < 16) (sym (is .1)) (is .2) in indexed _ 16 _ inside refl
 
 element-copy-out-set : tie.Need-element-copy-out-set Inv-loop μ-loop
 unfolding IsNext
 element-copy-out-set c =
     let part = c .before .before .before in let next = part .before .before in
     let is = as-next _ _ _ _ _ _ (part .part2 .given .1) (next .next-part .ensures) in
-    let inside = subst (λ (k : ℕ). k < 16) (sym (is .1)) (is .2) in search needs
+    let inside = subst (λ (k : ℕ). k < 16) (sym (is .1)) (is .2) in inside
 
 loop-less-6 : tie.Need-loop-less-6 Inv-loop μ-loop
 unfolding IsNext
@@ -362,28 +362,28 @@ part-figures-of-end c =
     is-applying _ _ (told .enum-told4 .given .1) (l .inv .2) .fits
 
 mul-numbers-after : tie.Need-mul-numbers-after Inv-loop μ-loop
-mul-numbers-after c = let inside = c .before .before .before .cell-index2 .ensures .inside in search needs
+mul-numbers-after c = let inside = c .before .before .before .cell-index2 .ensures .inside in indexed _ 16 _ inside refl
 
 element-copy-out-numbers-after : tie.Need-element-copy-out-numbers-after Inv-loop μ-loop
-element-copy-out-numbers-after c = let inside = c .before .before .before .cell-index2 .ensures .inside in search needs
+element-copy-out-numbers-after c = let inside = c .before .before .before .cell-index2 .ensures .inside in inside
 
 mul-numbers-after-2 : tie.Need-mul-numbers-after-2 Inv-loop μ-loop
-mul-numbers-after-2 c = let inside = c .before .before .before .cell-index2 .ensures .inside in search needs
+mul-numbers-after-2 c = let inside = c .before .before .before .cell-index2 .ensures .inside in indexed _ 16 _ inside refl
 
 element-copy-out-numbers-after-2 : tie.Need-element-copy-out-numbers-after-2 Inv-loop μ-loop
-element-copy-out-numbers-after-2 c = let inside = c .before .before .before .cell-index2 .ensures .inside in search needs
+element-copy-out-numbers-after-2 c = let inside = c .before .before .before .cell-index2 .ensures .inside in inside
 
 mul-words-after : tie.Need-mul-words-after Inv-loop μ-loop
-mul-words-after c = let place = c .before .before .before .before in let inside = place .cell-index2 .ensures .inside in search needs
+mul-words-after c = let place = c .before .before .before .before in let inside = place .cell-index2 .ensures .inside in indexed _ 16 _ inside refl
 
 array-copy-out-words-after : tie.Need-array-copy-out-words-after Inv-loop μ-loop
-array-copy-out-words-after c = let place = c .before .before .before .before in let inside = place .cell-index2 .ensures .inside in search needs
+array-copy-out-words-after c = let place = c .before .before .before .before in let inside = place .cell-index2 .ensures .inside in inside
 
 mul-comms-2 : tie.Need-mul-comms-2 Inv-loop μ-loop
-mul-comms-2 c = let place = c .before .before .before .before .before .before in let inside = place .cell-index2 .ensures .inside in search needs
+mul-comms-2 c = let place = c .before .before .before .before .before .before in let inside = place .cell-index2 .ensures .inside in indexed _ 16 _ inside refl
 
 array-set-from-comms-2 : tie.Need-array-set-from-comms-2 Inv-loop μ-loop
-array-set-from-comms-2 c = let place = c .before .before .before .before .before .before in let inside = place .cell-index2 .ensures .inside in search needs
+array-set-from-comms-2 c = let place = c .before .before .before .before .before .before in let inside = place .cell-index2 .ensures .inside in inside
 
 loop-less-7 : tie.Need-loop-less-7 Inv-loop μ-loop
 unfolding IsNext
@@ -437,22 +437,22 @@ loop-again-8 c =
 mul-change-words : tie.Need-mul-change-words Inv-loop μ-loop
 mul-change-words c =
     let arm = c in let told = arm .before .before .before in let l = told .before .before .before .before .loop in
-    let inside = is-applying _ _ (told .enum-told4 .given .1) (l .inv .2) .place in search needs
+    let inside = is-applying _ _ (told .enum-told4 .given .1) (l .inv .2) .place in indexed _ 16 _ inside refl
 
 array-copy-out-change-words : tie.Need-array-copy-out-change-words Inv-loop μ-loop
 array-copy-out-change-words c =
     let arm = c in let told = arm .before .before .before in let l = told .before .before .before .before .loop in
-    let inside = is-applying _ _ (told .enum-told4 .given .1) (l .inv .2) .place in search needs
+    let inside = is-applying _ _ (told .enum-told4 .given .1) (l .inv .2) .place in inside
 
 mul-comms-3 : tie.Need-mul-comms-3 Inv-loop μ-loop
 mul-comms-3 c =
     let arm = c .before .before in let told = arm .before .before .before in let l = told .before .before .before .before .loop in
-    let inside = is-applying _ _ (told .enum-told4 .given .1) (l .inv .2) .place in search needs
+    let inside = is-applying _ _ (told .enum-told4 .given .1) (l .inv .2) .place in indexed _ 16 _ inside refl
 
 array-set-from-comms-3 : tie.Need-array-set-from-comms-3 Inv-loop μ-loop
 array-set-from-comms-3 c =
     let arm = c .before .before in let told = arm .before .before .before in let l = told .before .before .before .before .loop in
-    let inside = is-applying _ _ (told .enum-told4 .given .1) (l .inv .2) .place in search needs
+    let inside = is-applying _ _ (told .enum-told4 .given .1) (l .inv .2) .place in inside
 
 loop-less-9 : tie.Need-loop-less-9 Inv-loop μ-loop
 loop-less-9 c =
@@ -492,12 +492,12 @@ part-new-cell-end c =
 mul-cells : tie.Need-mul-cells Inv-loop μ-loop
 mul-cells c =
     let arm = c .before .before .before in let told = arm .before .before in let head = told .before .before .before .before in let l = head .loop in
-    let inside = is-storing _ _ (told .enum-told7 .given .1) (l .inv .2) .inside in search needs
+    let inside = is-storing _ _ (told .enum-told7 .given .1) (l .inv .2) .inside in indexed _ 16 _ inside refl
 
 array-set-from-cells : tie.Need-array-set-from-cells Inv-loop μ-loop
 array-set-from-cells c =
     let arm = c .before .before .before in let told = arm .before .before in let head = told .before .before .before .before in let l = head .loop in
-    let inside = is-storing _ _ (told .enum-told7 .given .1) (l .inv .2) .inside in search needs
+    let inside = is-storing _ _ (told .enum-told7 .given .1) (l .inv .2) .inside in inside
 
 loop-less-11 : tie.Need-loop-less-11 Inv-loop μ-loop
 loop-less-11 c = let arm = c .before .before .before in let told = arm .before .before in less-store _ _ _ _ _ _ (told .enum-told7 .given .1)
@@ -515,22 +515,22 @@ loop-again-11 c =
 mul-with-phase : tie.Need-mul-with-phase Inv-loop μ-loop
 mul-with-phase c =
     let arm = c .before in let told = arm .before .before in let head = told .before .before .before .before in let l = head .loop in
-    let inside = is-storing _ _ (told .enum-told7 .given .1) (l .inv .2) .inside in search needs
+    let inside = is-storing _ _ (told .enum-told7 .given .1) (l .inv .2) .inside in indexed _ 16 _ inside refl
 
 array-copy-out-with-phase : tie.Need-array-copy-out-with-phase Inv-loop μ-loop
 array-copy-out-with-phase c =
     let arm = c .before in let told = arm .before .before in let head = told .before .before .before .before in let l = head .loop in
-    let inside = is-storing _ _ (told .enum-told7 .given .1) (l .inv .2) .inside in search needs
+    let inside = is-storing _ _ (told .enum-told7 .given .1) (l .inv .2) .inside in inside
 
 mul-cells-2 : tie.Need-mul-cells-2 Inv-loop μ-loop
 mul-cells-2 c =
     let arm = c .before .before .before in let told = arm .before .before in let head = told .before .before .before .before in let l = head .loop in
-    let inside = is-storing _ _ (told .enum-told7 .given .1) (l .inv .2) .inside in search needs
+    let inside = is-storing _ _ (told .enum-told7 .given .1) (l .inv .2) .inside in indexed _ 16 _ inside refl
 
 array-set-from-cells-2 : tie.Need-array-set-from-cells-2 Inv-loop μ-loop
 array-set-from-cells-2 c =
     let arm = c .before .before .before in let told = arm .before .before in let head = told .before .before .before .before in let l = head .loop in
-    let inside = is-storing _ _ (told .enum-told7 .given .1) (l .inv .2) .inside in search needs
+    let inside = is-storing _ _ (told .enum-told7 .given .1) (l .inv .2) .inside in inside
 
 loop-less-12 : tie.Need-loop-less-12 Inv-loop μ-loop
 loop-less-12 c = let arm = c .before .before .before in let told = arm .before .before in less-store _ _ _ _ _ _ (told .enum-told7 .given .1)
@@ -548,12 +548,12 @@ loop-again-12 c =
 mul-cells-3 : tie.Need-mul-cells-3 Inv-loop μ-loop
 mul-cells-3 c =
     let arm = c .before in let told = arm .before .before in let head = told .before .before .before .before in let l = head .loop in
-    let inside = is-storing _ _ (told .enum-told7 .given .1) (l .inv .2) .inside in search needs
+    let inside = is-storing _ _ (told .enum-told7 .given .1) (l .inv .2) .inside in indexed _ 16 _ inside refl
 
 array-set-from-cells-3 : tie.Need-array-set-from-cells-3 Inv-loop μ-loop
 array-set-from-cells-3 c =
     let arm = c .before in let told = arm .before .before in let head = told .before .before .before .before in let l = head .loop in
-    let inside = is-storing _ _ (told .enum-told7 .given .1) (l .inv .2) .inside in search needs
+    let inside = is-storing _ _ (told .enum-told7 .given .1) (l .inv .2) .inside in inside
 
 loop-less-13 : tie.Need-loop-less-13 Inv-loop μ-loop
 loop-less-13 c = let arm = c .before in let told = arm .before .before in less-store _ _ _ _ _ _ (told .enum-told7 .given .1)
