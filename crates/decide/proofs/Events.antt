@@ -33,8 +33,10 @@ use Rattle.asking.specs.Moves.{moved, cutOffAt, PollMoves, Polls}
 use Rattle.unobeyed.specs.declared.Admission.{Admission}
 use Rattle.unobeyed.specs.declared.Admission.the-variants.{Admitted, Refused}
 use Rattle.unobeyed.specs.Admission.{cpuFor, askedFor, waitedCell, cellFor, Looks, admitted, Follows, Placed}
+use Rattle.calls.specs.Calls.{CallParts, Calls}
+use Rattle.scan.specs.Scan.{scanOf}
 use Rattle.decide.specs.declared.Decision.{Decision}
-use Rattle.decide.specs.Decide.{settled, Settles, scanOf, eventLooks, AllParts, CallParts, Faulty, Calls}
+use Rattle.decide.specs.Decide.{settled, Settles, eventLooks, AllParts, Faulty}
 use Rattle.decide.proofs.Laws.{kept-cpu}
 
 -- the event that an arm knows
@@ -72,7 +74,6 @@ module _ {boot : ℕ} {pool remap : Pool} {pages ids : ℕ} {cells : CellSets} {
     caller = ap (cpuAt m) (sym (cpu-inside cpu h)) ∙ a .shows .looks .cpu;
     words = a .shows .looks .words;
     asked = a .shows .asked;
-    size = a .shows .size;
     scan = λ e. rw (eq-eqb code cellCreate e, scanOf) at (a .shows .scan);
   }
 
@@ -112,19 +113,6 @@ module _ {boot : ℕ} {pool remap : Pool} {pages ids : ℕ} {cells : CellSets} {
 
 module _ {boot : ℕ} {pool remap : Pool} {pages ids : ℕ} {cells : CellSets} {call : Waiting} {bytes : List ℕ} {p : Cpu} {w : CommRegion} {q : Cpu}
     {scan back : ℤ} {m : Machine} (same : back ≡ scan) where
-  pub call-passed : {cpu code a1 : ℕ} → CallParts boot pool remap pages ids cells call cpu code a1 bytes p w q scan m
-      → CallParts boot pool remap pages ids cells call cpu code a1 bytes p w q back m
-  call-passed h = record {
-    parts = h .parts;
-    sets = h .sets;
-    table = h .table;
-    caller = h .caller;
-    words = h .words;
-    asked = h .asked;
-    size = h .size;
-    scan = λ e. same ∙ h .scan e;
-  }
-
   pub all-passed : {e : Event} → AllParts boot pool remap pages ids cells call e bytes p w q scan m
       → AllParts boot pool remap pages ids cells call e bytes p w q back m
   all-passed h = record {

@@ -35,8 +35,9 @@ use Rattle.comms.proofs.Laws.{cell-inside}
 use Rattle.asking.specs.declared.Effect.the-variants.{NoEffect}
 use Rattle.asking.specs.declared.Move.{Move}
 use Rattle.asking.specs.Moves.{effectOf, moved, Moves, cutOffAt}
+use Rattle.scan.specs.Scan.{cellFails, scanOf}
 use Rattle.decide.specs.declared.Decision.{Decision}
-use Rattle.decide.specs.Decide.{settled, Settles, cellFails, scanOf, Faulty}
+use Rattle.decide.specs.Decide.{settled, Settles, Faulty}
 
 -- a decision by one rule is one by another that says the same of its machines
 pub settles-as : {has one : Machine → Type 0} {new : CellConfig} {rule first : Machine → Stepped} {d : Decision} → Settles one new first d

@@ -1,4 +1,2 @@
 pub mod Laws
-pub mod Calls
 pub mod Events
-pub mod Scans

@@ -28,8 +28,9 @@ use Rattle.create_rules.specs.declared.Found.{Found}
 use Rattle.create_rules.specs.Looks.{asksCreate, foundLive}
 use Rattle.unobeyed.specs.Admission.{cpuFor, askedFor, cellFor}
 use Rattle.asking.specs.Moves.{effectOf, moved, cutOffAt}
+use Rattle.scan.specs.Scan.{scanOf, Scans}
 use Rattle.decide.specs.declared.Decision.{Decision}
-use Rattle.decide.specs.Decide.{settled, scanOf, eventLooks, AllParts, Scans}
+use Rattle.decide.specs.Decide.{settled, eventLooks, AllParts}
 
 -- ---- what a shell reads
 

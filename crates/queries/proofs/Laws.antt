@@ -1,12 +1,11 @@
 -- A table of codes, row by row, and the caller's own CPU in the table where its call is counted. Assumes nothing.
-use mathlib.Core.Path.{_≡_, refl, sym, ap, ap₂, subst, _∙_}
+use mathlib.Core.Path.{_≡_, refl, sym, ap, ap₂, _∙_}
 use mathlib.Core.Bool.{Bool, true, false, not, _&&_}
 use mathlib.Core.List.{List, [], _∷_}
-use Prim.Native.Nat.{ℕ, _<_, _≤_}
-use native.Mathlib.Omega.{arith}
+use Prim.Native.Nat.{ℕ, zero, suc, _<_, _≤_}
 use lib.IntN.{ℤ}
-use lib.ListN.{length, set, getD}
-use lib.Seq.{getD-set-same, getD-set-other}
+use lib.ListN.{set, getD}
+use lib.Seq.{getD-set-other}
 use borrow.Author.Tests.{not-false, ltb-true}
 use lib.Dec.{leb, leb→le, ltb, eqb}
 use Rattle.base.specs.Rules.{Refusal, firstRule, _⇒_}
@@ -20,7 +19,7 @@ use Rattle.machine_state.specs.declared.Machine.{Machine}
 use Rattle.machine_state.specs.Machine.{cpuIn, pastCpu, maxCells, maxCpus}
 use Rattle.rules.specs.State.{rootId, bootCpus, commAt, cpuAt, stateAt, hasId, live, withCpus}
 use Rattle.rules.specs.Queries.{low31}
-use Rattle.rules.specs.Effects.{counted, callCounter}
+use Rattle.rules.specs.Effects.{bump, countExit, counted, callCounter}
 use Rattle.cpu_table.specs.CpuTable.{changeOf}
 use Rattle.cpu_table.specs.declared.CpuChange.the-variants.{Count}
 use Rattle.cpu_table.specs.CpuTable.{cpuIndex}
@@ -82,18 +81,20 @@ module _ (cpu boot : ℕ) (found : Bool) (e : found ≡ member cpu boot) where
   pub listed : not found ≡ false → (m : Machine) → bootCpus m ≡ boot → member cpu (bootCpus m) ≡ true
   listed n m b = ap (member cpu) b ∙ sym e ∙ not-false found n
 
+-- a CPU that is counted in the table; one past its end has no counters, and stays as it is read
+counted-in : (cpus : List Cpu) (k : ℕ) → cpuIn (set cpus k (changeOf (Count callCounter) (cpuIn cpus k))) k ≡ changeOf (Count callCounter) (cpuIn cpus k)
+unfolding changeOf countExit bump
+counted-in [] k = refl
+counted-in (p ∷ cpus) zero = refl
+counted-in (p ∷ cpus) (suc k) = counted-in cpus k
+
 -- the CPUs of the machine in which the caller is counted
-module _ (m : Machine) (caller : ℕ) (p : Cpu) (size : length (m .cpus) ≡ maxCpus) (h : caller < maxCpus) (e : cpuAt m caller ≡ p) where
-  abbrev own : Cpu
-  own = changeOf (Count callCounter) p
-
-  counted-at : (j : ℕ) → cpuAt (counted callCounter caller m) j ≡ cpuIn (set (m .cpus) caller own) j
+module _ (m : Machine) (caller : ℕ) (p : Cpu) (e : cpuAt m caller ≡ p) where
+  pub caller-counted : cpuAt (counted callCounter caller m) caller ≡ changeOf (Count callCounter) p
   unfolding counted withCpus changeOf
-  counted-at j = ap (λ (x : Cpu). cpuIn (set (m .cpus) caller (changeOf (Count callCounter) x)) j) e
-
-  pub caller-counted : cpuAt (counted callCounter caller m) caller ≡ own
-  caller-counted = counted-at caller ∙ getD-set-same (m .cpus) caller own pastCpu (subst (λ (n : ℕ). caller < n) (sym size) h)
+  caller-counted = counted-in (m .cpus) caller ∙ ap (changeOf (Count callCounter)) e
 
   pub asked-counted : (j : ℕ) (q : Cpu) → j < maxCpus → (j ≡ caller → ⊥) → cpuAt m (cpuIndex j) ≡ q → cpuAt (counted callCounter caller m) j ≡ q
+  unfolding counted withCpus
   asked-counted j q b n f =
-      counted-at j ∙ getD-set-other (m .cpus) caller j own pastCpu n ∙ ap (cpuAt m) (sym (cpu-inside j b)) ∙ f
+      getD-set-other (m .cpus) caller j (countExit callCounter (cpuAt m caller)) pastCpu n ∙ ap (cpuAt m) (sym (cpu-inside j b)) ∙ f

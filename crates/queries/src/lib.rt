@@ -2,11 +2,10 @@
 // its row names; its answer is right of every machine with these parts.
 ghost use mathlib.Core.Path.{_≡_};
 ghost use mathlib.Core.Bool.{true};
-ghost use Prim.Native.Nat.{ℕ, _-_, _≤_, _<_};
-ghost use lib.ListN.{getD, length};
+ghost use Prim.Native.Nat.{ℕ, _-_, _≤_};
+ghost use lib.ListN.{getD};
 ghost use Rattle.cpu_set.specs.CpuSet.{member};
 ghost use Rattle.machine_state.specs.declared.Machine.{Machine};
-ghost use Rattle.machine_state.specs.Machine.{maxCpus};
 ghost use Rattle.rules.specs.State.{bootCpus, commAt, cpuAt};
 ghost use Rattle.rules.specs.Queries.{low31 as low31-of, getInfo, getState, cpuGetInfo};
 ghost use Rattle.rules.specs.Effects.{counted, callCounter};
@@ -110,7 +109,7 @@ fn cpu_figure(caller: Cpu, asked: Cpu, kind: u64) -> Answer
 // CPU Get Info of CPU `asked`, which is `q` if the table has it, for the CPU `caller`, which is `p`
 // before its call is counted.
 pub fn cpu_get_info(boot_cpus: u64, p: Cpu, q: Cpu, caller: u64, asked: u64, kind: u64) -> Answer
-    ensures { λ r. ⌜ ((m : Machine) → caller < maxCpus → length (m .cpus) ≡ maxCpus → bootCpus m ≡ «boot_cpus» → cpuAt m caller ≡ p → cpuAt m (cpuIndex asked) ≡ q → r ≡ Answer.Code (cpuGetInfo caller asked kind (counted callCounter caller m))) ⌝ }
+    ensures { λ r. ⌜ ((m : Machine) → bootCpus m ≡ «boot_cpus» → cpuAt m caller ≡ p → cpuAt m (cpuIndex asked) ≡ q → r ≡ Answer.Code (cpuGetInfo caller asked kind (counted callCounter caller m))) ⌝ }
 {
     if !cpu_set::contains(boot_cpus, asked) {
         return Answer::Code(EINVAL);

@@ -2,17 +2,14 @@
 use mathlib.Core.Path.{refl}
 use Rattle.rules.specs.Step.{obeyed}
 use Rattle.unobeyed.specs.Admission.{Placed}
+use Rattle.calls.proofs.Calls.{call-passed}
 use Rattle.decide.proofs.Laws.{settles-as}
-use Rattle.decide.proofs.Events.{at-event, places, calls, call-parts, own-cpu, faulty, polls, call-passed, all-passed}
+use Rattle.decide.proofs.Events.{at-event, places, calls, call-parts, own-cpu, faulty, polls, all-passed}
 use mir.Syntax.{w32}
 use mir.Facts.{toZ-ofZ}
 use borrow.Author.Needs.{needs}
 use Rattle.decide.proofs.obey.Statement.{statement}
 use Rattle.decide.proofs.obey.Tie as tie
-
-call-requires : tie.Need-call-requires
-unfolding Placed
-call-requires c κs = places _ (c .before .e .given .1) (c .before .before .before .pre)
 
 store-requires : tie.Need-store-requires
 unfolding Placed
@@ -65,4 +62,4 @@ unfolding obeyed
 returns-6 c bytes = at-event bytes (c .before .enum-told2 .given .1) (settles-as (c .leave .ensures _) (λ m h. h .parts .waits) (λ m h. refl))
 
 pub obey-spec : {M : Type 1} → statement M
-obey-spec = tie.close (tie.spec (λ c. search needs) call-requires (λ c. search needs) store-requires (λ c. search needs) fault-requires (λ c. search needs) exit-requires (λ c. search needs) (λ c κs. search needs) (λ c. search needs) (λ c κs. search needs) returns returns-2 returns-3 returns-4 returns-5 returns-6)
+obey-spec = tie.close (tie.spec (λ c. search needs) (λ c κs. tt) (λ c. search needs) store-requires (λ c. search needs) fault-requires (λ c. search needs) exit-requires (λ c. search needs) (λ c κs. search needs) (λ c. search needs) (λ c κs. search needs) returns returns-2 returns-3 returns-4 returns-5 returns-6)

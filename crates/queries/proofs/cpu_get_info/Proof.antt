@@ -11,25 +11,25 @@ use Rattle.queries.proofs.cpu_get_info.Tie as tie
 
 returns : tie.Need-returns
 unfolding cpuGetInfo counted withCpus
-returns c m h n b e f = answers _ _ _ _ _ (unlisted-row _ _ _ (c .before .contains .ensures) _ (c .if1 .taken) m b) refl
+returns c m b e f = answers _ _ _ _ _ (unlisted-row _ _ _ (c .before .contains .ensures) _ (c .if1 .taken) m b) refl
 
 returns-2 : tie.Need-returns-2
 unfolding counted withCpus
-returns-2 c m h n b e f =
+returns-2 c m b e f =
     let own = c .before .before in
     let found = own .before in
-    let is = caller-counted m _ _ n h e ∙ sym (own .change-cpu .ensures) in
+    let is = caller-counted m _ _ e ∙ sym (own .change-cpu .ensures) in
     c .cpu-figure .ensures _ _ _ is (ap (cpuAt (counted callCounter _ m)) (c .before .if2 .taken) ∙ is)
     (listed _ _ _ (found .before .contains .ensures) (found .if1 .left) m b)
 
 returns-3 : tie.Need-returns-3
 unfolding counted withCpus
-returns-3 c m h n b e f =
+returns-3 c m b e f =
     let own = c .before .before in
     let found = own .before in
     c .cpu-figure2 .ensures _ _ _
-    (caller-counted m _ _ n h e ∙ sym (own .change-cpu .ensures))
-    (asked-counted m _ _ n h e _ _ (in-table _ _ _ (found .before .contains .ensures) (found .if1 .left)) (c .before .if2 .left) f)
+    (caller-counted m _ _ e ∙ sym (own .change-cpu .ensures))
+    (asked-counted m _ _ e _ _ (in-table _ _ _ (found .before .contains .ensures) (found .if1 .left)) (c .before .if2 .left) f)
     (listed _ _ _ (found .before .contains .ensures) (found .if1 .left) m b)
 
 pub cpu-get-info-spec : {M : Type 1} → statement M

@@ -1,13 +1,13 @@
--- `decide::create_call` meets its contract: the scan's code is that of the first row that applies, or 0. Assumes nothing.
+-- `calls::create_call` meets its contract: the scan's code is that of the first row that applies, or 0. Assumes nothing.
 use mathlib.Core.Path.{ap, _∙_}
 use lib.IntN.{ℤ}
 use mir.Syntax.{w32}
 use mir.Facts.{toZ-ofZ}
 use Rattle.rules.specs.Calls.{ends}
-use Rattle.decide.proofs.Calls.{create-refused, create-asks}
+use Rattle.calls.proofs.Calls.{create-refused, create-asks}
 use borrow.Author.Needs.{needs}
-use Rattle.decide.proofs.create_call.Statement.{statement}
-use Rattle.decide.proofs.create_call.Tie as tie
+use Rattle.calls.proofs.create_call.Statement.{statement}
+use Rattle.calls.proofs.create_call.Tie as tie
 
 returns : tie.Need-returns
 returns c caller bytes =

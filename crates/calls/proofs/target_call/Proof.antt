@@ -1,14 +1,14 @@
--- `decide::target_call` meets its contract: row by row. Assumes nothing.
+-- `calls::target_call` meets its contract: row by row. Assumes nothing.
 use mathlib.Core.Bool.{Bool, not, _&&_}
 use mathlib.Core.Path.{_≡_, sym, ap, ap₂, _∙_}
 use Prim.Native.Nat.{ℕ}
 use Rattle.machine_state.specs.declared.Machine.{Machine}
 use Rattle.rules.specs.State.{hasId, live}
-use Rattle.decide.proofs.Calls.{target-root, target-absent, target-locked, target-asks}
+use Rattle.calls.proofs.Calls.{target-root, target-absent, target-locked, target-asks}
 use Rattle.asking.proofs.Laws.{moves-as}
 use borrow.Author.Needs.{needs}
-use Rattle.decide.proofs.target_call.Statement.{statement}
-use Rattle.decide.proofs.target_call.Tie as tie
+use Rattle.calls.proofs.target_call.Statement.{statement}
+use Rattle.calls.proofs.target_call.Tie as tie
 
 -- what the code found of the live IDs, it found of the machine's
 absent : (m : Machine) (id ids : ℕ) (found b : Bool) → m .«live_ids» ≡ ids → found ≡ hasId ids id → not found ≡ b → not (live m id) ≡ b

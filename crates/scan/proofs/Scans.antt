@@ -25,7 +25,7 @@ use Rattle.unobeyed.specs.Admission.{cpuFor, cellFor}
 use Rattle.create_rules.specs.declared.Found.{Found}
 use Rattle.create_rules.specs.Looks.{asksCreate}
 use Rattle.create_rules.specs.Rows.{createCode}
-use Rattle.decide.specs.Decide.{cellFails, scanOf, Scans, Scanned}
+use Rattle.scan.specs.Scan.{cellFails, scanOf, Scans, Scanned}
 
 -- a scan's number, and the table's size
 pub scanned : (ps : List Cpu) (has : Machine → Type 0) (e : Event) (bytes : List ℕ) (r : ℤ) → length ps ≡ maxCpus

@@ -9,8 +9,6 @@ use mir.Val.{ofZ}
 use borrow.Author.Tests.{eq-eqb, ne-eqb, lt-ltb, le-ltb}
 use lib.Dec.{leb, eqb}
 use lib.IntN.{ℤ}
-use lib.ListN.{length}
-use lib.Seq.{getD-set-same}
 use Rattle.base.specs.Rules.{firstRule, EPERM, ENOENT, EINVAL, ENOSYS}
 use Rattle.base.proofs.Rules.{rule-holds, rule-passed, no-rule}
 use Rattle.cell_record.specs.declared.CellConfig.{CellConfig}
@@ -23,20 +21,21 @@ use Rattle.machine_state.specs.declared.CallKind.{CallKind}
 use Rattle.machine_state.specs.declared.CallKind.the-variants.{Disable, Create, Start, SetLoadable, Destroy}
 use Rattle.machine_state.specs.declared.Machine.{Machine}
 use Rattle.machine_state.specs.declared.Stepped.{Stepped}
-use Rattle.machine_state.specs.Machine.{pastCpu}
 use Rattle.rules.specs.State.{rootId, cpuAt, live, withCpus}
 use Rattle.rules.specs.Queries.{getInfo, getState, cpuGetInfo}
 use Rattle.rules.specs.Create.{otherCellLocked, freeId}
 use Rattle.rules.specs.Effects.{counted, countExit, callCounter}
 use Rattle.rules.specs.Asking.{ask, isDestroy}
 use Rattle.rules.specs.Calls.{ends, cpuGetInfoCode, cellDestroy, cellGetState, disableCall, createCall, targetCall, callByCode, call}
-use Rattle.asking.specs.declared.Move.{Move}
+use Rattle.cpu_table.specs.CpuTable.{changeOf}
 use Rattle.comms.specs.declared.CellSets.{CellSets}
 use Rattle.comms.proofs.Sets.{same-sets}
+use Rattle.asking.specs.declared.Move.{Move}
 use Rattle.asking.specs.Moves.{Moves, WithSets}
+use Rattle.queries.proofs.Laws.{caller-counted}
 use Rattle.create_rules.specs.Rows.{createCode}
 use Rattle.create_rules.proofs.Laws.{code-admits, code-refuses}
-use Rattle.decide.specs.Decide.{Calls, Parts, CallParts, Waits}
+use Rattle.calls.specs.Calls.{Calls, Parts, CallParts, Waits}
 
 -- a move by a rule, as a call's
 pub calls-by : {has one : Machine → Type 0} {cpu : ℕ} {bytes : List ℕ} {rule : CellConfig → Machine → Stepped} {of : Machine → Stepped} {mv : Move}
@@ -133,13 +132,10 @@ module _ {boot : ℕ} {pool remap : Pool} {pages ids : ℕ} {cells : CellSets} {
   pub with-waiting : Waits ids cells w (counted callCounter cpu m)
   with-waiting = let next = counted-parts cpu m (h .parts) in record { ids = next .ids; parts = with-sets; waits = next .waits }
 
-module _ (cpu : ℕ) (m : Machine) where
-  abbrev owner : Cpu → ℕ
-  owner p = p .cell
-
-  pub counted-cell : cpu < length (m .cpus) → cpuAt (counted callCounter cpu m) cpu .cell ≡ cpuAt m cpu .cell
-  unfolding counted withCpus countExit
-  counted-cell h = ap owner (getD-set-same (m .cpus) cpu (countExit callCounter (cpuAt m cpu)) pastCpu h)
+-- the caller's cell
+pub counted-cell : (m : Machine) (cpu : ℕ) (p : Cpu) → cpuAt m cpu ≡ p → cpuAt (counted callCounter cpu m) cpu .cell ≡ p .cell
+unfolding changeOf countExit
+counted-cell m cpu p e = ap (λ (x : Cpu). x .cell) (caller-counted m cpu p e)
 
 module _ (cpu code a1 a2 : ℕ) (bytes : List ℕ) (m : Machine) where
   pub unknown-code : cpuGetInfoCode < code → ends ENOSYS m ≡ call cpu code a1 a2 bytes m
@@ -158,3 +154,18 @@ module _ (cpu code a1 a2 : ℕ) (bytes : List ℕ) (m : Machine) where
     pub by-its-code : barred cell ≡ false → callByCode cpu code a1 a2 bytes m ≡ call cpu code a1 a2 bytes m
     unfolding call
     by-its-code e = no-rule _ ∙ rule-passed _ _ _ (ap barred own ∙ e) ∙ rule-passed _ _ _ (le-ltb cpuGetInfoCode code known)
+
+-- a signed number that is handed on goes through its bits
+module _ {boot : ℕ} {pool remap : Pool} {pages ids : ℕ} {cells : CellSets} {call : Waiting} {bytes : List ℕ} {p : Cpu} {w : CommRegion} {q : Cpu}
+    {scan back : ℤ} {m : Machine} (same : back ≡ scan) where
+  pub call-passed : {cpu code a1 : ℕ} → CallParts boot pool remap pages ids cells call cpu code a1 bytes p w q scan m
+      → CallParts boot pool remap pages ids cells call cpu code a1 bytes p w q back m
+  call-passed h = record {
+    parts = h .parts;
+    sets = h .sets;
+    table = h .table;
+    caller = h .caller;
+    words = h .words;
+    asked = h .asked;
+    scan = λ e. same ∙ h .scan e;
+  }

@@ -1,13 +1,13 @@
--- `decide::query` meets its contract: by its code. Assumes nothing.
+-- `calls::query` meets its contract: by its code. Assumes nothing.
 use mathlib.Core.Path.{_≡_, ap, _∙_}
 use native.Mathlib.Omega.{arith}
 use Rattle.machine_state.specs.declared.Answer.{Answer}
 use Rattle.rules.specs.State.{answered, withCpus}
 use Rattle.rules.specs.Effects.{counted, callCounter}
-use Rattle.decide.proofs.Calls.{code-info, code-state, code-cpu, at-code}
+use Rattle.calls.proofs.Calls.{code-info, code-state, code-cpu, at-code}
 use borrow.Author.Needs.{needs}
-use Rattle.decide.proofs.query.Statement.{statement}
-use Rattle.decide.proofs.query.Tie as tie
+use Rattle.calls.proofs.query.Statement.{statement}
+use Rattle.calls.proofs.query.Tie as tie
 
 returns : tie.Need-returns
 unfolding counted withCpus
@@ -28,11 +28,10 @@ returns-2 c cells waiting bytes scan m h =
 returns-3 : tie.Need-returns-3
 unfolding counted withCpus
 returns-3 c cells waiting bytes scan m h =
-    let a = c .before .before .before in
-    let b = a .args in
+    let b = c .before .before .before .args in
     let code : b .code ≡ 7 = omega arith in
     let next = counted callCounter (b .cpu) m in
-    ap (λ (r : Answer). answered r next) (c .cpu-get-info .ensures m (a .pre .0) (h .size) (h .parts .boot) (h .caller) (h .asked))
+    ap (λ (r : Answer). answered r next) (c .cpu-get-info .ensures m (h .parts .boot) (h .caller) (h .asked))
     ∙ code-cpu (b .cpu) (b .a1) (b .a2) bytes next ∙ at-code (b .cpu) (b .a1) (b .a2) bytes next code
 
 pub query-spec : {M : Type 1} → statement M

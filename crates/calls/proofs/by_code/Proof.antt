@@ -1,12 +1,12 @@
--- `decide::by_code` meets its contract: by its code. Assumes nothing.
+-- `calls::by_code` meets its contract: by its code. Assumes nothing.
 use mathlib.Core.Path.{refl, _∙_}
 use mir.Syntax.{w32}
 use mir.Facts.{toZ-ofZ}
 use Rattle.rules.specs.Effects.{counted, callCounter}
-use Rattle.decide.proofs.Calls.{calls-by, counted-parts, with-sets, with-waiting, code-disable, code-create, code-start, code-loadable, code-destroy, at-code}
+use Rattle.calls.proofs.Calls.{calls-by, counted-parts, with-sets, with-waiting, code-disable, code-create, code-start, code-loadable, code-destroy, at-code}
 use borrow.Author.Needs.{needs}
-use Rattle.decide.proofs.by_code.Statement.{statement}
-use Rattle.decide.proofs.by_code.Tie as tie
+use Rattle.calls.proofs.by_code.Statement.{statement}
+use Rattle.calls.proofs.by_code.Tie as tie
 
 returns : tie.Need-returns
 returns c bytes =
