@@ -118,7 +118,7 @@ module _ {boot : ℕ} {pool remap : Pool} {pages ids : ℕ} {cells : CellSets} {
   all-passed h = record {
     parts = h .parts;
     sets = h .sets;
-    shows = record { looks = h .shows .looks; asked = h .shows .asked; size = h .shows .size; scan = same ∙ h .shows .scan };
+    shows = record { looks = h .shows .looks; asked = h .shows .asked; scan = same ∙ h .shows .scan };
   }
 
 -- an event by its admission

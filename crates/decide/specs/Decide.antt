@@ -61,7 +61,6 @@ eventLooks Malformed w call = false
 pub record Shows (e : Event) (bytes : List ℕ) (p : Cpu) (w : CommRegion) (q : Cpu) (found : ℤ) (m : Machine) : Type 0 where
   pub looks : Looks e p w m
   pub asked : cpuAt m (askedFor e) ≡ q
-  pub size : length (m .cpus) ≡ maxCpus
   pub scan : found ≡ scanOf e bytes m
 
 -- with the parts that are no tables, and the sets of cells, where the event looks at them

@@ -71,16 +71,15 @@ module _ (m : Machine) (e : Event) (k at : ℕ) (own-cpu : Index (cpuFor e) maxC
   }
 
   pub all-parts : (bytes : List ℕ) (cells : CellSets) (j : ℕ) (back scan : ℤ) → (eventLooks e (commAt m at) (m .waiting) ≡ true → Sets cells m)
-      → Index (askedFor e) maxCpus j → length (m .comms) ≡ maxCells → length (m .cpus) ≡ maxCpus → back ≡ scan → scan ≡ scanOf e bytes m
+      → Index (askedFor e) maxCpus j → length (m .comms) ≡ maxCells → back ≡ scan → scan ≡ scanOf e bytes m
       → AllParts (bootCpus m) (m .system .pool) (m .system .remap) (m .«pool_used») (m .«live_ids») cells (m .waiting) e bytes (cpuAt m k) (commAt m at)
       (cpuAt m j) back m
-  all-parts bytes cells j back scan sets i comms cpus b s = record {
+  all-parts bytes cells j back scan sets i comms b s = record {
     parts = record { boot = refl; pool = refl; remap = refl; used = refl; ids = refl; waits = refl };
     sets = sets;
     shows = record {
       looks = record { cpu = ap (cpuAt m) (sym (own-cpu .is)); words = ap (commAt m) (sym (own-words .is)); table = comms };
       asked = ap (cpuAt m) (sym (i .is));
-      size = cpus;
       scan = b ∙ s;
     };
   }

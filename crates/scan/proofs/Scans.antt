@@ -7,7 +7,7 @@ use Prim.Native.Nat.{ℕ, _<_, _≤_}
 use borrow.Author.Tests.{eq-eqb, ne-eqb, le-ltb}
 use lib.Dec.{ltb, eqb}
 use lib.IntN.{ℤ, pos}
-use lib.ListN.{length, set}
+use lib.ListN.{set}
 use Rattle.base.proofs.Tests.{le-or-lt}
 use Rattle.system_record.specs.declared.SystemConfig.{SystemConfig}
 use Rattle.machine_state.specs.declared.Cpu.{Cpu}
@@ -25,12 +25,7 @@ use Rattle.unobeyed.specs.Admission.{cpuFor, cellFor}
 use Rattle.create_rules.specs.declared.Found.{Found}
 use Rattle.create_rules.specs.Looks.{asksCreate}
 use Rattle.create_rules.specs.Rows.{createCode}
-use Rattle.scan.specs.Scan.{cellFails, scanOf, Scans, Scanned}
-
--- a scan's number, and the table's size
-pub scanned : (ps : List Cpu) (has : Machine → Type 0) (e : Event) (bytes : List ℕ) (r : ℤ) → length ps ≡ maxCpus
-    → ((m : Machine) → has m → r ≡ scanOf e bytes m) → Scanned ps has e bytes r
-scanned ps has e bytes r c f = record { found = f; cpus = c }
+use Rattle.scan.specs.Scan.{cellFails, scanOf, Scans}
 
 -- the event that an arm knows
 pub scan-at : (bytes : List ℕ) (m : Machine) (r : ℤ) {e known : Event} → e ≡ known → r ≡ scanOf known bytes m → r ≡ scanOf e bytes m

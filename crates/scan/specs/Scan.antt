@@ -5,13 +5,13 @@ use mathlib.Core.List.{List}
 use Prim.Native.Nat.{ℕ}
 use lib.Dec.{ltb, eqb}
 use lib.IntN.{ℤ, pos}
-use lib.ListN.{length, set}
+use lib.ListN.{set}
 use Rattle.system_record.specs.declared.SystemConfig.{SystemConfig}
 use Rattle.machine_state.specs.declared.Cpu.{Cpu}
 use Rattle.machine_state.specs.declared.Event.{Event}
 use Rattle.machine_state.specs.declared.Event.the-variants.{Call, Store, Fault, Exit, Poll, Malformed}
 use Rattle.machine_state.specs.declared.Machine.{Machine}
-use Rattle.machine_state.specs.Machine.{maxCells, maxCpus}
+use Rattle.machine_state.specs.Machine.{maxCells}
 use Rattle.rules.specs.State.{rootId, cellAt, stateAt, cpuAt, isFinal}
 use Rattle.rules.specs.Create.{someCellLocked}
 use Rattle.rules.specs.Effects.{counted, callCounter, failCpu, allFailed}
@@ -51,8 +51,3 @@ pub record Scans (s : SystemConfig) (pages live root : ℕ) (ps : List Cpu) (p :
   pub state : stateAt m (cellIndex (cellFor e (p .cell) (m .waiting))) ≡ word
   pub locked : asksCreate e ≡ true → closed ≡ someCellLocked m
   pub found : asksCreate e ≡ true → seen ≡ foundLive bytes m
-
--- what a scan gives: the definition's number; and the table that it had has a place for each CPU
-pub record Scanned (ps : List Cpu) (has : Machine → Type 0) (e : Event) (bytes : List ℕ) (r : ℤ) : Type 0 where
-  pub found : (m : Machine) → has m → r ≡ scanOf e bytes m
-  pub cpus : length ps ≡ maxCpus

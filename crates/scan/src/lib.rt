@@ -4,10 +4,11 @@ ghost use mathlib.Core.Path.{_≡_};
 ghost use mathlib.Core.Bool.{not, _&&_};
 ghost use lib.Dec.{ltb, eqb};
 ghost use lib.ListN.{set as set-at};
+ghost use Rattle.machine_state.specs.declared.Machine.{Machine};
 ghost use Rattle.machine_state.specs.Machine.{cpuIn, maxCells};
 ghost use Rattle.rules.specs.State.{rootId, isFinal};
 ghost use Rattle.rules.specs.Effects.{failCpu, allFailed};
-ghost use Rattle.scan.specs.Scan.{Scans, Scanned};
+ghost use Rattle.scan.specs.Scan.{scanOf, Scans};
 use create_rules::Found;
 use machine_state::CELL_CREATE;
 use machine_state::Cpu;
@@ -43,7 +44,7 @@ pub fn scan(
     e: Event,
     record: &[u8],
 ) -> i32
-    ensures { λ r. ⌜ Scanned cpus (Scans system «pool_used» «live_ids» «root_cpus» cpus p «set» state locked found e (now («record» .entry))) e (now («record» .entry)) r ⌝ }
+    ensures { λ r. ⌜ ((m : Machine) → Scans system «pool_used» «live_ids» «root_cpus» cpus p «set» state locked found e (now («record» .entry)) m → r ≡ scanOf e (now («record» .entry)) m) ⌝ }
 {
     match e {
         Event::Call(cpu, code, _, _) => {

@@ -31,13 +31,13 @@ returns c =
     let m = entry .args .t1 in
     let sets = sets-there m _ _ _ (record { messageable = messages .messageable .result; locked = locked .locked .result }) (look .looks .ensures) (messages .messageable .ensures) (locked .locked .ensures) in
     let says =
-    scanned .scan .ensures .found m
+    scanned .scan .ensures m
     (scan-parts m _ _ _ (cpu .cpu-for .ensures) (at .words-for .ensures) _ _ _ _ _ (own .cell-index .ensures) sets (locks .is-locked-but .ensures)
     (λ t. found .look-through .ensures m refl refl t)) in
     let back = toZ-ofZ {w = w32} {z = scanned .scan .result} (record { sfits = scanned .scan .ok }) in
     applied (decided .decide .result) _ m _ _ _ _ _ (touch .change-cpu .ensures) (cut .cut-off .ensures) (effect .carry-out .ensures) (words .change-words .ensures) (c .with-waiting .ensures)
     ∙ decided .decide .ensures .settles _ m
-    (refl, all-parts m _ _ _ (cpu .cpu-for .ensures) (at .words-for .ensures) _ _ _ _ _ sets (asked .asked-for .ensures) (sizes .table-sizes .ensures .commTable) (scanned .scan .ensures .cpus) back says)
+    (refl, all-parts m _ _ _ (cpu .cpu-for .ensures) (at .words-for .ensures) _ _ _ _ _ sets (asked .asked-for .ensures) (sizes .table-sizes .ensures .commTable) back says)
 
 pub step-spec : {M : Type 1} → statement M
 step-spec = tie.close (tie.spec (λ c κs. search needs) (λ c. search needs) (λ c. search needs) (λ c κs. search needs) (λ c. search needs) (λ c. search needs) (λ c κs. search needs) (λ c κs. search needs) (λ c. search needs) (λ c. search needs) (λ c κs. search needs) (λ c κs. search needs) (λ c κs. search needs) (λ c κs. search needs) (λ c κs. search needs) (λ c. search needs) (λ c. search needs) (λ c κs. search needs) (λ c κs. search needs) (λ c κs. search needs) (λ c. search needs) (λ c. search needs) (λ c κs. search needs) (λ c. search needs) (λ c. search needs) (λ c κs. search needs) (λ c κs. search needs) (λ c. search needs) (λ c. search needs) (λ c κs. search needs) (λ c. search needs) (λ c. search needs) (λ c κs. search needs) returns)

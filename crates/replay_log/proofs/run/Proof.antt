@@ -228,13 +228,13 @@ loop-again-4 c =
     let stands = is-deciding _ _ (told .enum-told3 .given .1) (l .inv .2) in let chosen = stands .0 in let d = made .decide .result in
     let sets = sets-there m _ _ _ (record { messageable = messages .messageable .result; locked = locked .locked .result }) (look .looks .ensures) (messages .messageable .ensures) (locked .locked .ensures) in
     let says =
-    scanned .scan .ensures .found m
+    scanned .scan .ensures m
     (scan-parts m _ _ _ (cpu .cpu-for .ensures) (at .words-for .ensures) _ _ _ _ _ (own .cell-index .ensures) sets (locks .is-locked-but .ensures)
     (look-end (chosen .looking) _ (stands .1) refl)) in
     let back = toZ-ofZ {w = w32} {z = scanned .scan .result} (record { sfits = scanned .scan .ok }) in
     let steps =
     made .decide .ensures .settles _ m
-    (refl, all-parts m _ _ _ (cpu .cpu-for .ensures) (at .words-for .ensures) _ _ _ _ _ sets (asked .asked-for .ensures) (l .inv .1 .commTable) (l .inv .1 .cpuTable) back says) in (
+    (refl, all-parts m _ _ _ (cpu .cpu-for .ensures) (at .words-for .ensures) _ _ _ _ _ sets (asked .asked-for .ensures) (l .inv .1 .commTable) back says) in (
       decided-places _ _ _ m _ _ _ _ _ _ _ _ _ _ chosen d _ _ (wrote .put .ensures) (l .inv .0),
       cpu-stored _ _ _ (l .inv .1) _ _,
       still-applying _ _ refl
