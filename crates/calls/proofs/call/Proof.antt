@@ -1,7 +1,5 @@
 -- `calls::call` meets its contract: row by row. Assumes nothing.
 use mathlib.Core.Path.{_∙_}
-use Prim.Native.Nat.{_≤_}
-use native.Mathlib.Omega.{arith}
 use Rattle.calls.proofs.Calls.{calls-by, counted-parts, counted-cell, unknown-code, not-root's, by-its-code, call-passed}
 use mir.Syntax.{w32}
 use mir.Facts.{toZ-ofZ}
@@ -17,21 +15,20 @@ returns c bytes =
 
 returns-2 : tie.Need-returns-2
 returns-2 c bytes =
-    let a = c .before .before .before .before in
-    let b = a .args in
-    let known : b .code ≤ 7 = omega arith in
+    let tested = c .before .before .before in
+    let b = tested .before .args in
     calls-by (c .stay2 .ensures) (λ m h. counted-parts (b .cpu) m (h .parts) .waits)
-    (λ m h. not-root's (b .cpu) (b .code) (b .a1) (b .a2) _ _ known _ (counted-cell m _ _ (h .caller)) (c .before .if2 .taken))
+    (λ m h. not-root's (b .cpu) (b .code) (b .a1) (b .a2) _ _ (tested .if1 .left) _ (counted-cell m _ _ (h .caller)) (c .before .if2 .taken))
 
 returns-3 : tie.Need-returns-3
 returns-3 c bytes =
-    let a = c .before .before .before .before in
+    let tested = c .before .before .before in
+    let a = tested .before in
     let b = a .args in
-    let known : b .code ≤ 7 = omega arith in
     let by = c .by-code .ensures bytes in
     record {
       moves = λ m h. by .moves m (call-passed (toZ-ofZ {w = w32} {z = b .scan} (a .fits .scan)) h)
-          ∙ by-its-code (b .cpu) (b .code) (b .a1) (b .a2) _ _ known _ (counted-cell m _ _ (h .caller)) (c .before .if2 .left);
+          ∙ by-its-code (b .cpu) (b .code) (b .a1) (b .a2) _ _ (tested .if1 .left) _ (counted-cell m _ _ (h .caller)) (c .before .if2 .left);
       place = by .place;
     }
 
