@@ -1,30 +1,27 @@
--- Laws of the page questions: a page in a range, the first region that has one, what one look at a table or at all cells finds. Linear
--- arithmetic, and induction on lists. Assumes nothing.
-use mathlib.Core.Path.{_≡_, refl, sym, ap, subst, _∙_}
+-- Laws of the questions about physical pages: a page in a range, what one look at a table or at all cells finds. Linear arithmetic, and
+-- induction on lists. Assumes nothing.
+use mathlib.Core.Path.{_≡_, refl, sym, subst, _∙_}
 use mathlib.Core.Bool.{Bool, true, false, not, _&&_, _||_, and-true, and-false}
 use mathlib.Core.List.{List, [], _∷_}
-use Prim.Native.Nat.{ℕ, suc, _+_, _-_, _*_, _/_, _^_, _≤_, _<_, min}
-use native.Mathlib.Nat.{div-le-of-le-mul, mul-le-mul-right}
-use native.Mathlib.Numerals.{add-one}
+use Prim.Native.Nat.{ℕ, suc, _+_, _-_, _*_, _^_, _≤_, _<_}
+use native.Mathlib.Nat.{mul-le-mul-right}
 use native.Mathlib.Omega.{arith}
-use borrow.Author.Tests.{lt-ltb, le-ltb, le-leb, lt-leb, ltb-true, leb-true, not-true, not-false}
-use lib.Dec.{T, leb, ltb}
-use lib.ListN.{length, take, drop, getD, length-take, drop-of-length-le}
-use lib.Seq.{drop-cons, getD-take}
+use borrow.Author.Tests.{lt-ltb, le-ltb, le-leb, lt-leb, not-true, not-false}
+use lib.Dec.{T, ltb}
+use lib.ListN.{length, take, getD}
 use Rattle.base.specs.Lists.{all, any, from}
 use Rattle.base.proofs.Lists.{any-none, any-turn}
 use Rattle.base.proofs.Tests.{equal-leb, is-true, holds, and-left, and-right}
 use Rattle.regions.specs.declared.MemRegion.{MemRegion}
-use Rattle.regions.specs.Regions.{noRegion, comm, loadable, shared}
-use Rattle.cpu_set.specs.CpuSet.{bit}
+use Rattle.regions.specs.Regions.{comm, loadable, shared}
 use Rattle.machine_state.specs.declared.Cell.{Cell}
-use Rattle.machine_state.specs.declared.CellPage.{CellPage}
 use Rattle.machine_state.specs.declared.PhysPage.{PhysPage}
 use Rattle.machine_state.specs.declared.Owner.{Owner}
 use Rattle.machine_state.specs.declared.Machine.{Machine}
 use Rattle.machine_state.specs.Machine.{cellIn, maxCells}
 use Rattle.rules.specs.State.{hasId, live, regionsAt, first, cellIds}
-use Rattle.rules.specs.Pages.{hasPage, hasPhys, hasVirt, owns, shares, loads, isLoading, hasBooted, cellMayTouch, hypervisorHas, bootHas, ownerOf, openToRoot, rootMayTouch, regionFor}
+use Rattle.rules.specs.Pages.{hasPage, hasPhys, owns, shares, loads, isLoading, hasBooted, cellMayTouch, hypervisorHas, bootHas, ownerOf, openToRoot, rootMayTouch}
+use Rattle.rules.proofs.Ids.{hasId-lt}
 use Rattle.comms.specs.Choice.{choice}
 use Rattle.comms.proofs.Laws.{firstFrom, anyFrom, first-turn}
 use Rattle.comms.proofs.Laws as Ids
@@ -49,48 +46,6 @@ module _ (start size n : ℕ) where
       rw (lt-ltb n (2 ^ 36) h, le-leb start (4096 * n) l)
       (equal-leb (suc (4096 * n - start)) size (suc (4096 * n)) (start + size) (λ p. omega arith) (λ p. omega arith))
 
-  -- a page in a range is no earlier than the range's first, and below 2^36
-  page-head : hasPage start size n ≡ true → T (ltb n (2 ^ 36) && leb start (4096 * n))
-  unfolding hasPage
-  page-head e = and-left (ltb n (2 ^ 36) && leb start (4096 * n)) (ltb (4096 * n) (start + size)) (holds e)
-
-  pub page-small : hasPage start size n ≡ true → n < 2 ^ 36
-  page-small e = ltb-true n (2 ^ 36) (is-true _ (and-left (ltb n (2 ^ 36)) (leb start (4096 * n)) (page-head e)))
-
-  pub page-starts : hasPage start size n ≡ true → start / 4096 ≤ n
-  page-starts e =
-      div-le-of-le-mul 4096
-      (leb-true start (4096 * n) (is-true _ (and-right (ltb n (2 ^ 36)) (leb start (4096 * n)) (page-head e))))
-
--- the number of the physical page fits
-pub page-sum : (phys begin n : ℕ) → phys < 2 ^ 64 → n < 2 ^ 36 → phys / 4096 + (n - begin) < 2 ^ 64
-page-sum phys begin n h l = omega arith
-
--- ---- the first region that has a cell page, in a loop that goes up a table of m places, n of them in use
-
-module _ (p : CellPage) (xs : List MemRegion) (count n m : ℕ) (size : length xs ≡ m) (used : n ≡ min count m) (i : ℕ) where
-  in-use : length (take count xs) ≡ n
-  in-use = length-take count xs ∙ ap (min count) size ∙ sym used
-
-  module _ (d : MemRegion) (inside : i < n) where
-    rest : drop i (take count xs) ≡ getD xs i d ∷ drop (suc i) (take count xs)
-    rest =
-        let l = in-use in
-        drop-cons (take count xs) i d (omega arith)
-        ∙ ap (λ (r : MemRegion). r ∷ drop (suc i) (take count xs)) (getD-take count xs i d (omega arith))
-
-    pub region-here : hasVirt p (getD xs i d) ≡ true → getD xs i d ≡ regionFor p (drop i (take count xs))
-    unfolding regionFor
-    region-here e = rw (rest, e, regionFor)
-
-    pub region-next : hasVirt p (getD xs i d) ≡ false → regionFor p (drop i (take count xs)) ≡ regionFor p (drop (i + 1) (take count xs))
-    unfolding regionFor
-    region-next e = rw (rest, add-one, e, regionFor)
-
-  pub region-none : n ≤ i → noRegion ≡ regionFor p (drop i (take count xs))
-  unfolding regionFor
-  region-none h = let l = in-use in let past : length (take count xs) ≤ i = omega arith in rw (drop-of-length-le (take count xs) past)
-
 -- ---- the first ID that passes a test
 
 module _ (p : ℕ → Bool) where
@@ -110,16 +65,8 @@ module _ (p : ℕ → Bool) where
   first-found = first-any cellIds tt
 
 -- a live cell has its place in the table
-live-below : (used id : ℕ) → hasId used id ≡ true → id < maxCells
-unfolding hasId
-live-below used id = by-test (ltb id maxCells) refl
-  where
-    by-test : (b : Bool) → ltb id maxCells ≡ b → elim b as (λ x. Bool) [ true ↦ bit id used | false ↦ false ] ≡ true → id < maxCells
-    by-test true e t = ltb-true id maxCells e
-    by-test false e t = absurd (holds t)
-
 pub live-place : (ids id : ℕ) (found : Bool) → found ≡ hasId ids id → not found ≡ false → id < maxCells
-live-place ids id found e n = live-below ids id (sym e ∙ not-false found n)
+live-place ids id found e n = hasId-lt ids id (holds (sym e ∙ not-false found n))
 
 -- a place's offset in a table of cells fits
 pub place-fits : (id size : ℕ) → id < maxCells → size < 2 ^ 60 → id * size < 2 ^ 64

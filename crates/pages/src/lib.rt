@@ -1,18 +1,14 @@
-// The page questions: who owns a physical page, what a cell may touch, and what a cell's page is
-// mapped to.
+// The questions about physical pages: who owns one, and who may touch it.
 ghost use mathlib.Core.Path.{_≡_};
 ghost use lib.ListN.{take};
 ghost use Rattle.base.specs.Lists.{any};
 ghost use Rattle.machine_state.specs.declared.Machine.{Machine};
-ghost use Rattle.rules.specs.Pages.{hasPage, hasPhys, hasVirt, hasBooted, hypervisorHas, bootHas, ownerOf, isLoading, openToRoot};
-ghost use Rattle.rules.specs.Pages.{rootMayTouch, cellMayTouch, mayTouch, regionFor, accessOf, mappedBy, cellMapping, ifTouchable, rootMapping, mappingOf};
+ghost use Rattle.rules.specs.Pages.{hasPage, hasPhys, hasBooted, hypervisorHas, bootHas, ownerOf, isLoading, openToRoot};
+ghost use Rattle.rules.specs.Pages.{rootMayTouch, cellMayTouch, mayTouch};
 ghost use Rattle.pages.specs.Seen.{Sees, Found, ownerBy};
-use machine_state::Access;
 use machine_state::Cell;
-use machine_state::CellPage;
 use machine_state::MAX_CELLS;
 use machine_state::Machine;
-use machine_state::Mapping;
 use machine_state::Owner;
 use machine_state::Phase;
 use machine_state::PhysPage;
@@ -39,7 +35,7 @@ struct Holders {
 }
 
 // Whether a range of bytes has page `n`; none has one from 2^36 up.
-fn has_page(start: u64, size: u64, n: u64) -> bool
+pub fn has_page(start: u64, size: u64, n: u64) -> bool
     ensures { λ r. ⌜ r ≡ hasPage start size n ⌝ }
 {
     if n >= 0x10_0000_0000 {
@@ -59,15 +55,8 @@ fn has_phys(r: MemRegion, page: PhysPage) -> bool
     has_page(r.phys, r.size, page.0)
 }
 
-// Whether a region has a cell page.
-fn has_virt(r: MemRegion, page: CellPage) -> bool
-    ensures { λ q. ⌜ q ≡ hasVirt page r ⌝ }
-{
-    has_page(r.virt, r.size, page.0)
-}
-
 // Whether the machine was booted; it stays so when it is disabled.
-fn has_booted(power: Power) -> bool
+pub fn has_booted(power: Power) -> bool
     ensures { λ q. ⌜ q ≡ hasBooted power ⌝ }
 {
     match power {
@@ -263,117 +252,4 @@ pub fn may_touch(m: Machine, id: u64, page: PhysPage) -> bool
     } else {
         cell_may_touch(m, id, page)
     }
-}
-
-// The first of the `count` regions that has a cell page, or a region of no size.
-fn region_for(table: [MemRegion; MAX_REGIONS], count: usize, page: CellPage) -> MemRegion
-    ensures { λ q. ⌜ q ≡ regionFor page (take count table) ⌝ }
-{
-    let n = region_table::used(count, MAX_REGIONS);
-    let mut i = 0;
-    while i < n {
-        let r = table[i];
-        if has_virt(r, page) {
-            return r;
-        }
-        i += 1;
-    }
-    region_table::no_region()
-}
-
-// The same of the system's table.
-fn boot_region_for(table: [MemRegion; MAX_BOOT_REGIONS], count: usize, page: CellPage) -> MemRegion
-    ensures { λ q. ⌜ q ≡ regionFor page (take count table) ⌝ }
-{
-    let n = region_table::used(count, MAX_BOOT_REGIONS);
-    let mut i = 0;
-    while i < n {
-        let r = table[i];
-        if has_virt(r, page) {
-            return r;
-        }
-        i += 1;
-    }
-    region_table::no_region()
-}
-
-// What a region lets its cell do.
-fn access_of(r: MemRegion) -> Access
-    ensures { λ q. ⌜ q ≡ accessOf r ⌝ }
-{
-    Access {
-        read: r.flags / 1 % 2 == 1,
-        write: r.flags / 2 % 2 == 1,
-        execute: r.flags / 4 % 2 == 1,
-    }
-}
-
-// What a region makes of a cell page.
-fn translate(r: MemRegion, page: CellPage) -> Mapping
-    ensures { λ q. ⌜ q ≡ mappedBy r page ⌝ }
-{
-    if !has_virt(r, page) {
-        return Mapping::Unmapped;
-    }
-    if regions::is_comm(r) {
-        return Mapping::Comm;
-    }
-    Mapping::Page(
-        PhysPage(r.phys / 4096 + (page.0 - r.virt / 4096)),
-        access_of(r),
-    )
-}
-
-// What a cell page is mapped to by the first of the `count` regions that has it.
-fn table_mapping(table: [MemRegion; MAX_REGIONS], count: usize, page: CellPage) -> Mapping
-    ensures { λ q. ⌜ q ≡ cellMapping (take count table) page ⌝ }
-{
-    translate(region_for(table, count, page), page)
-}
-
-// The same mapping, or nothing where root may not touch its page.
-fn if_touchable(m: Machine, mapping: Mapping) -> Mapping
-    ensures { λ q. ⌜ q ≡ ifTouchable m mapping ⌝ }
-{
-    match mapping {
-        Mapping::Page(page, access) => {
-            if root_may_touch(m, page) {
-                Mapping::Page(page, access)
-            } else {
-                Mapping::Unmapped
-            }
-        }
-        Mapping::Comm => Mapping::Unmapped,
-        Mapping::Unmapped => Mapping::Unmapped,
-    }
-}
-
-// What a cell page is mapped to for root.
-fn root_mapping(m: Machine, page: CellPage) -> Mapping
-    ensures { λ q. ⌜ q ≡ rootMapping page m ⌝ }
-{
-    let system = m.system;
-    let regions = system.regions;
-    let r = boot_region_for(regions, system.region_count, page);
-    if_touchable(m, translate(r, page))
-}
-
-// What a cell page is mapped to for a cell; nothing where there is no such cell.
-pub fn mapping_of(m: Machine, id: u64, page: CellPage) -> Mapping
-    ensures { λ q. ⌜ q ≡ mappingOf id page m ⌝ }
-{
-    let power = m.power;
-    if !has_booted(power) {
-        return Mapping::Unmapped;
-    }
-    if id == 0 {
-        return root_mapping(m, page);
-    }
-    if !comms::is_live(m.live_ids, id) {
-        return Mapping::Unmapped;
-    }
-    let i = id as usize;
-    let c = m.cells[i];
-    let regions = c.regions;
-    table_mapping(regions, c.region_count, page)
 }

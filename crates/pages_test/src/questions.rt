@@ -66,7 +66,7 @@ pub(crate) fn answer_to(m: Machine, s: &[u8], out: &mut [u8]) -> usize {
         return show::truth(pages::root_may_touch(m, PhysPage(a)), out);
     }
     if has_two(s, b"map") {
-        return show::mapping(pages::mapping_of(m, a, CellPage(b)), out);
+        return show::mapping(mapping::mapping_of(m, a, CellPage(b)), out);
     }
     if has_two(s, b"word") {
         return show::word(comm_region::region_word(m, a, b), out);

@@ -6,7 +6,7 @@ use Rattle.pages.proofs.has_phys.Tie as tie
 
 returns : tie.Need-returns
 unfolding hasPhys
-returns c = cc
+returns c = c .has-page .ensures
 
 pub has-phys-spec : {M : Type 1} → statement M
 has-phys-spec = tie.close (tie.spec (λ c κs. search needs) returns)

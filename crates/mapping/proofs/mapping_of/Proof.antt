@@ -1,4 +1,4 @@
--- `pages::mapping_of` meets its contract: each test is a row of the table, in its order. A live cell has its place in the table. Assumes
+-- `mapping::mapping_of` meets its contract: each test is a row of the table, in its order. A live cell has its place in the table. Assumes
 -- nothing.
 use mathlib.Core.Path.{sym, ap, _∙_}
 use mathlib.Core.Bool.{not}
@@ -6,10 +6,10 @@ use lib.Dec.{lit<}
 use borrow.Author.Tests.{eq-eqb, ne-eqb, not-true, not-false}
 use Rattle.base.proofs.Rules.{rule-holds, rule-passed, no-rule}
 use Rattle.rules.specs.Pages.{mappingOf}
 use Rattle.pages.proofs.Laws.{live-place, place-fits}
 use borrow.Author.Needs.{needs}
-use Rattle.pages.proofs.mapping_of.Statement.{statement}
-use Rattle.pages.proofs.mapping_of.Tie as tie
+use Rattle.mapping.proofs.mapping_of.Statement.{statement}
+use Rattle.mapping.proofs.mapping_of.Tie as tie
 
 returns : tie.Need-returns
 unfolding mappingOf

@@ -1,10 +1,10 @@
--- `pages::if_touchable` meets its contract: each arm is its case of the definition, with what `root_may_touch` ensures. Assumes nothing.
+-- `mapping::if_touchable` meets its contract: each arm is its case of the definition, with what `root_may_touch` ensures. Assumes nothing.
 use mathlib.Core.Path.{sym, ap, _∙_}
 use Rattle.machine_state.specs.declared.Mapping.{Mapping}
 use Rattle.rules.specs.Pages.{ifTouchable}
 use borrow.Author.Needs.{needs}
-use Rattle.pages.proofs.if_touchable.Statement.{statement}
-use Rattle.pages.proofs.if_touchable.Tie as tie
+use Rattle.mapping.proofs.if_touchable.Statement.{statement}
+use Rattle.mapping.proofs.if_touchable.Tie as tie
 
 returns : tie.Need-returns
 unfolding ifTouchable

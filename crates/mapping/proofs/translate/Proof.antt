@@ -1,13 +1,13 @@
--- `pages::translate` meets its contract: each test is one of the definition, in its order. A page that the region has is no earlier than the
+-- `mapping::translate` meets its contract: each test is one of the definition, in its order. A page that the region has is no earlier than the
 -- region's first, and below 2^36, so that no number wraps. Assumes nothing.
 use mathlib.Core.Path.{sym, _∙_}
 use borrow.Author.Tests.{not-true, not-false}
 use Rattle.machine_state.specs.declared.Mapping.the-variants.{Page}
 use Rattle.rules.specs.Pages.{mappedBy, hasVirt, physOf}
-use Rattle.pages.proofs.Laws.{page-small, page-starts, page-sum}
+use Rattle.mapping.proofs.Laws.{page-small, page-starts, page-sum}
 use borrow.Author.Needs.{needs}
-use Rattle.pages.proofs.translate.Statement.{statement}
-use Rattle.pages.proofs.translate.Tie as tie
+use Rattle.mapping.proofs.translate.Statement.{statement}
+use Rattle.mapping.proofs.translate.Tie as tie
 
 returns : tie.Need-returns
 unfolding mappedBy

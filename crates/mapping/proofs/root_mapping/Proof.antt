@@ -1,10 +1,10 @@
--- `pages::root_mapping` meets its contract: it is the definition, with what its parts ensure. Assumes nothing.
+-- `mapping::root_mapping` meets its contract: it is the definition, with what its parts ensure. Assumes nothing.
 use mathlib.Core.Path.{ap, _∙_}
 use Rattle.regions.specs.declared.MemRegion.{MemRegion}
 use Rattle.rules.specs.Pages.{mappedBy, cellMapping, ifTouchable, rootMapping}
 use borrow.Author.Needs.{needs}
-use Rattle.pages.proofs.root_mapping.Statement.{statement}
-use Rattle.pages.proofs.root_mapping.Tie as tie
+use Rattle.mapping.proofs.root_mapping.Statement.{statement}
+use Rattle.mapping.proofs.root_mapping.Tie as tie
 
 returns : tie.Need-returns
 unfolding rootMapping cellMapping
