@@ -14,7 +14,7 @@ use Rattle.rules.specs.Effects.{withState, cpusChanged, cellCutOff}
 use Rattle.rules.specs.Asking.{mayBeMessaged}
 use Rattle.comms.specs.declared.CellSets.{CellSets}
 use Rattle.comms.specs.Sets.{hasLocked, setsWithout}
-use Rattle.comms.proofs.Sets.{dropped-set}
+use Rattle.id_set.proofs.Ids.{dropped-set}
 use Rattle.asking.specs.Moves.{WithSets}
 
 module _ (cell : ℕ) (m : Machine) where

@@ -20,7 +20,7 @@ use Rattle.machine_state.specs.Machine.{pastComm, noComm, maxCells}
 use Rattle.rules.specs.State.{first, live, commAt, active, isFinal, rootId, withPool, withIds, withRootCpus, withCell, withComm, withCpus}
 use Rattle.rules.specs.Effects.{effect, cellCreated, cellDestroyed, cpusChanged, newComm}
 use Rattle.rules.specs.Asking.{mayBeMessaged, nextToMessage, everyCell, tells}
-use Rattle.comms.proofs.Ids.{has-added, has-dropped}
+use Rattle.id_set.proofs.Ids.{has-added, has-dropped}
 
 -- a search finds the same where the tests agree
 first-same : (p q : ℕ → Bool) (k n : ℕ) → ((id : ℕ) → id < k + n → p id ≡ q id) → first p (from k n) ≡ first q (from k n)

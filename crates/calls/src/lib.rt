@@ -41,7 +41,7 @@ fn target_call(live_ids: u16, cells: CellSets, waiting: Waiting, kind: CallKind,
     if id == 0 {
         return asking::stay(Answer::Code(EINVAL), waiting);
     }
-    if !comms::is_live(live_ids, id) {
+    if !id_set::is_live(live_ids, id) {
         return asking::stay(Answer::Code(ENOENT), waiting);
     }
     let target = id as usize;
@@ -56,7 +56,7 @@ fn create_call(live_ids: u16, cells: CellSets, waiting: Waiting, scan: i32) -> M
     ensures { λ r. ⌜ ((caller : ℕ) (bytes : List ℕ) → Creates (λ m. Waits «live_ids» cells waiting m × (scan ≡ createCode caller bytes m)) caller bytes r) ⌝ }
 {
     if scan == 0 {
-        let id = comms::free_id(live_ids);
+        let id = id_set::free_id(live_ids);
         return asking::ask(cells, CallKind::Create, id, 0);
     }
     asking::stay(Answer::Code(scan), waiting)

@@ -38,7 +38,7 @@ fn word_of(c: CommRegion, timer: u16, cpus: u64, word: u64) -> u32
 fn sees_region(live_ids: u16, c: CommRegion, id: u64) -> bool
     ensures { λ r. ⌜ ((m : Machine) → m .«live_ids» ≡ «live_ids» → commAt m id ≡ c → r ≡ seesRegion id m) ⌝ }
 {
-    !(id == 0) & comms::is_live(live_ids, id) & c.mapped
+    !(id == 0) & id_set::is_live(live_ids, id) & c.mapped
 }
 
 // Word `word` of cell `id`'s region. None for root, for a cell that is not live or has no

@@ -1,26 +1,22 @@
--- Sets of cells: a loop that goes up through the IDs gathers those that a test picks, and a set so gathered has the IDs that pass it. It
--- loses a cell that no longer passes, and machines with the same live IDs and words have the same sets. Assumes nothing.
+-- Sets of cells: a loop that goes up through the IDs gathers those that a test picks, and machines with the same live IDs and words have the
+-- same sets. Assumes nothing.
 use mathlib.Core.Bool.{Bool, true, false, not, _&&_}
 use mathlib.Core.List.{List}
 use mathlib.Core.Path.{_≡_, refl, sym, ap, ap₂, _∙_}
-use Prim.Native.Nat.{ℕ, zero, suc, _+_, _*_, _%_, _^_, _<_, _≤_}
-use native.Mathlib.Decide.{ℕ-discrete}
+use Prim.Native.Nat.{ℕ, _+_, _*_, _%_, _^_, _<_, _≤_}
 use native.Mathlib.Nat.{one-mul, pow-suc}
 use native.Mathlib.Numerals.{add-one}
 use native.Mathlib.Omega.{arith}
-use borrow.Author.Tests.{eq-eqb, ne-eqb}
 use lib.Dec.{eqb}
 use lib.Pow.{pow-mono, shl-exact}
 use Rattle.cpu_set.specs.CpuSet.{numberOf}
 use Rattle.machine_state.specs.declared.CommRegion.{CommRegion}
 use Rattle.machine_state.specs.declared.Machine.{Machine}
-use Rattle.machine_state.specs.Machine.{commIn, maxCells}
+use Rattle.machine_state.specs.Machine.{commIn}
 use Rattle.rules.specs.State.{rootId, commAt, hasId, idsWhere, isFinal, isLocked, active}
-use Rattle.rules.specs.Effects.{dropId}
 use Rattle.rules.specs.Asking.{mayBeMessaged}
 use Rattle.comms.specs.declared.CellSets.{CellSets}
 use Rattle.comms.specs.Sets.{hasLocked, addWhere, Sets}
-use Rattle.comms.proofs.Ids.{has-where}
 
 -- ---- a set, one ID a turn
 
@@ -73,28 +69,6 @@ module _ {test : Machine → ℕ → Bool} {live : ℕ} {table : List CommRegion
   gathers-all {ids} {i} g h m l w =
       let all : i ≡ 16 = omega (arith, g .top, h) in
       g .picks m l w ∙ ap (λ (n : ℕ). numberOf n (test m)) all
-
--- what is found in such a set, by a machine's test
-pub has-picked : (ids id : ℕ) (p : ℕ → Bool) (found : Bool) → id < maxCells → ids ≡ idsWhere p → found ≡ hasId ids id → found ≡ p id
-has-picked ids id p found h e f = f ∙ ap (λ (n : ℕ). hasId n id) e ∙ has-where p id h
-
--- ---- a set without one cell
-
-same-picked : (n : ℕ) (p q : ℕ → Bool) → ((k : ℕ) → k < n → p k ≡ q k) → numberOf n p ≡ numberOf n q
-unfolding numberOf
-same-picked zero p q e = refl
-same-picked (suc n) p q e =
-    ap₂ (λ (b : Bool) (ids : ℕ). elim b as (λ x. ℕ) [ true ↦ ids + 2 ^ n | false ↦ ids ]) (e n (omega arith)) (same-picked n p q (λ k h. e k (omega arith)))
-
--- where one cell no longer passes a test, and the others do as before
-pub dropped-set : (id ids : ℕ) (p q : ℕ → Bool) → ids ≡ idsWhere p → q id ≡ false → ((k : ℕ) → (k ≡ id → ⊥) → q k ≡ p k)
-    → dropId id ids ≡ idsWhere q
-unfolding dropId
-dropped-set id ids p q e own other = same-picked 16 (λ k. not (eqb k id) && hasId ids k) q (λ k h. go k h (ℕ-discrete k id))
-  where
-    go : (k : ℕ) → k < 16 → Dec (k ≡ id) → (not (eqb k id) && hasId ids k) ≡ q k
-    go k h (yes i) = rw (eq-eqb k id i) (sym (ap q i ∙ own))
-    go k h (no n) = rw (ne-eqb k id n) (has-picked ids k p (hasId ids k) h e refl ∙ sym (other k n))
 
 -- ---- machines with the same live IDs and words
 

@@ -3,12 +3,10 @@ use mathlib.Core.Path.{_≡_}
 use mathlib.Core.Bool.{Bool, true, false, not}
 use Prim.Native.Nat.{ℕ, _<_}
 use lib.Dec.{ltb, eqb}
-use Rattle.base.specs.Lists.{upTo}
-use Rattle.cpu_set.specs.CpuSet.{countBelow}
 use Rattle.machine_state.specs.declared.CommRegion.{CommRegion}
 use Rattle.machine_state.specs.declared.Machine.{Machine}
 use Rattle.machine_state.specs.Machine.{maxCells}
-use Rattle.rules.specs.State.{commAt, withComm, first, hasId}
+use Rattle.rules.specs.State.{commAt, withComm}
 use Rattle.rules.specs.Effects.{storeWord}
 use Rattle.rules.specs.Asking.{message}
 use Rattle.comms.specs.declared.WordsChange.{WordsChange}
@@ -40,13 +38,3 @@ pub record Index (place size r : ℕ) : Type 0 where
 -- a cell's place in the tables; 0 where they have none for its number
 unfoldable pub cellIndex : ℕ → ℕ
 cellIndex id = elim (ltb id maxCells) [ true ↦ id | false ↦ 0 ]
-
--- the lowest ID of a set, root's included, or 16; where the set is not empty, the set has it
-pub record Lowest (ids r : ℕ) : Type 0 where
-  pub is : r ≡ first (hasId ids) (upTo maxCells)
-  pub inside : (ids ≡ 0 → ⊥) → r < maxCells
-  pub here : (ids ≡ 0 → ⊥) → hasId ids r ≡ true
-
--- how many IDs a set has
-unfoldable pub idCount : ℕ → ℕ
-idCount ids = countBelow maxCells (hasId ids)

@@ -1,3 +1,2 @@
 pub mod Comms
-pub mod Choice
 pub mod Sets

@@ -2,17 +2,14 @@
 // all cells.
 ghost use mathlib.Core.Path.{_≡_};
 ghost use mathlib.Core.Bool.{true};
-ghost use Prim.Native.Nat.{ℕ, _^_, _<_};
-ghost use lib.Dec.{eqb};
-ghost use Rattle.cpu_set.specs.CpuSet.{member};
+ghost use Prim.Native.Nat.{_^_, _<_};
 ghost use Rattle.machine_state.specs.declared.Machine.{Machine};
 ghost use Rattle.machine_state.specs.Machine.{commIn};
-ghost use Rattle.rules.specs.State.{hasId, idsWhere, isFinal, commAt, active};
-ghost use Rattle.rules.specs.Create.{freeId, otherCellLocked};
-ghost use Rattle.rules.specs.Effects.{storeWord, addId, dropId};
+ghost use Rattle.rules.specs.State.{idsWhere, isFinal, commAt, active};
+ghost use Rattle.rules.specs.Create.{otherCellLocked};
+ghost use Rattle.rules.specs.Effects.{storeWord};
 ghost use Rattle.rules.specs.Asking.{message as message-of, mayBeMessaged, nextToMessage, isHeard, consents as consents-of};
-ghost use Rattle.comms.specs.Comms.{Index, Lowest, cellIndex, wordsOf, among as among-of};
-ghost use Rattle.comms.specs.Choice.{choice};
+ghost use Rattle.comms.specs.Comms.{Index, cellIndex, wordsOf, among as among-of};
 ghost use Rattle.comms.specs.Sets.{hasLocked, addWhere, setsWithout};
 use machine_state::CommRegion;
 use machine_state::FAILED;
@@ -49,30 +46,6 @@ pub fn cell_index(id: usize) -> usize
     if id < MAX_CELLS { id } else { 0 }
 }
 
-// Whether cell `id` is live.
-pub fn is_live(live_ids: u16, id: u64) -> bool
-    ensures { λ r. ⌜ r ≡ hasId «live_ids» id ⌝ }
-{
-    if id >= 16 {
-        return false;
-    }
-    (live_ids >> (id as u16)) % 2 == 1
-}
-
-// The first number where `b` is true, else the second.
-pub fn choose(b: bool, x: usize, y: usize) -> usize
-    ensures { λ r. ⌜ r ≡ choice b x y ⌝ }
-{
-    if b { x } else { y }
-}
-
-// The smallest free ID from 1, or 16: the lowest bit that is clear, with root's counted as set.
-pub fn free_id(live_ids: u16) -> usize
-    ensures { λ r. ⌜ ((m : Machine) → m .«live_ids» ≡ «live_ids» → r ≡ freeId m) ⌝ }
-{
-    u16::trailing_zeros(!(live_ids | 1)) as usize
-}
-
 // Whether a state is final: shut down or failed.
 pub fn is_final(state: u32) -> bool
     ensures { λ r. ⌜ r ≡ isFinal state ⌝ }
@@ -107,7 +80,7 @@ fn is_among(whom: Whom, id: usize) -> bool
 fn is_active(live_ids: u16, id: usize, c: CommRegion) -> bool
     ensures { λ r. ⌜ ((m : Machine) → m .«live_ids» ≡ «live_ids» → commAt m id ≡ c → r ≡ active m id) ⌝ }
 {
-    !(id == 0) & is_live(live_ids, id as u64) & !is_final(c.cell_state)
+    !(id == 0) & id_set::is_live(live_ids, id as u64) & !is_final(c.cell_state)
 }
 
 // A set of IDs below `id`, with `id` in it where `is_in`.
@@ -161,8 +134,8 @@ pub fn next_cell(messageable: u16, whom: Whom, after: usize) -> usize
     let mut i = MAX_CELLS;
     while 1 < i {
         i -= 1;
-        let here = is_live(messageable, i as u64);
-        found = choose((after < i) & is_among(whom, i) & here, i, found);
+        let here = id_set::is_live(messageable, i as u64);
+        found = id_set::choose((after < i) & is_among(whom, i) & here, i, found);
     }
     found
 }
@@ -175,7 +148,7 @@ pub fn is_locked_but(locked: u16, except: usize) -> bool
     let mut i = MAX_CELLS;
     while 1 < i {
         i -= 1;
-        found = is_live(locked, i as u64) & !(i == except) | found;
+        found = id_set::is_live(locked, i as u64) & !(i == except) | found;
     }
     found
 }
@@ -185,8 +158,8 @@ pub fn without_cell(cells: CellSets, id: usize) -> CellSets
     ensures { λ r. ⌜ r ≡ setsWithout id cells ⌝ }
 {
     CellSets {
-        messageable: drop_id(cells.messageable, id),
-        locked: drop_id(cells.locked, id),
+        messageable: id_set::drop_id(cells.messageable, id),
+        locked: id_set::drop_id(cells.locked, id),
     }
 }
 
@@ -240,32 +213,4 @@ pub fn consents(c: CommRegion) -> bool
     ensures { λ r. ⌜ r ≡ consents-of c ⌝ }
 {
     is_final(c.cell_state) | (c.reply_from_cell == REQUEST_APPROVED)
-}
-
-// The set of one number below 64; of none for a number from 64 up.
-pub fn single(id: usize) -> u64
-    ensures { λ r. ⌜ ((k : ℕ) → k < 64 → member k r ≡ eqb k id) ⌝ }
-{
-    if id < 64 { 1 << id } else { 0 }
-}
-
-// The set of IDs with one more.
-pub fn add_id(live_ids: u16, id: usize) -> u16
-    ensures { λ r. ⌜ r ≡ addId id «live_ids» ⌝ }
-{
-    (cpu_set::union(live_ids as u64, single(id)) % 0x1_0000) as u16
-}
-
-// The set of IDs with one less.
-pub fn drop_id(live_ids: u16, id: usize) -> u16
-    ensures { λ r. ⌜ r ≡ dropId id «live_ids» ⌝ }
-{
-    (cpu_set::without(live_ids as u64, single(id)) % 0x1_0000) as u16
-}
-
-// The lowest ID of a set, or 16 where the set is empty.
-pub fn lowest(ids: u16) -> usize
-    ensures { λ r. ⌜ Lowest ids r ⌝ }
-{
-    u16::trailing_zeros(ids) as usize
 }

@@ -13,7 +13,7 @@ use lib.Seq.{getD-set-same, getD-set-other}
 use Rattle.base.proofs.Lists.{length-upTo, getD-upTo, map-upTo}
 use Rattle.cpu_set.specs.CpuSet.{member, without, count}
 use Rattle.cpu_set.proofs.Laws.{member-setOf, count-less}
-use Rattle.comms.proofs.Ids.{zero-member}
+use Rattle.id_set.proofs.Ids.{zero-member}
 use Rattle.machine_state.specs.declared.Cpu.{Cpu}
 use Rattle.machine_state.specs.Machine.{cpuIn, pastCpu, maxCpus}
 use Rattle.rules.specs.Effects.{changeIn, changeCpus}

@@ -17,8 +17,8 @@ use Rattle.machine_state.specs.Machine.{maxCells}
 use Rattle.rules.specs.State.{rootId, cellAt, cellIds, hasId}
 use Rattle.rules.specs.Create.{regionInUse}
 use Rattle.rules.specs.Effects.{dropId}
-use Rattle.comms.specs.Comms.{Lowest, idCount}
-use Rattle.comms.proofs.Ids.{has-bit, has-dropped, drop-less}
+use Rattle.id_set.specs.Ids.{Lowest, idCount}
+use Rattle.id_set.proofs.Ids.{has-bit, has-dropped, drop-less}
 use Rattle.create_rules.specs.declared.Found.{Found}
 use Rattle.create_rules.specs.Looks.{hasName, meetsRecord, nothingFound, together, lookedAt, someOf, foundIn, foundLive, asksCreate, toLookAt, Looking}
 

@@ -121,7 +121,7 @@ pub fn to_look_at(e: Event, live_ids: u16) -> u16
     ensures { λ r. ⌜ r ≡ toLookAt e «live_ids» ⌝ }
 {
     if asks_create(e) {
-        comms::drop_id(live_ids, 0)
+        id_set::drop_id(live_ids, 0)
     } else {
         0
     }
@@ -134,10 +134,10 @@ pub fn look_through(e: Event, live_ids: u16, cells: [Cell; MAX_CELLS], record: &
     let mut found = nothing_found();
     let mut left = to_look_at(e, live_ids);
     while left != 0 {
-        let i = comms::lowest(left);
+        let i = id_set::lowest(left);
         let c = cells[i];
         found = look(found, c, record);
-        left = comms::drop_id(left, i);
+        left = id_set::drop_id(left, i);
     }
     found
 }
@@ -174,7 +174,7 @@ fn no_room(pages: u32, pool_used: u32, live_ids: u16, record: &[u8]) -> bool
     ensures { λ q. ⌜ ((m : Machine) → m .system .pool .pages ≡ pages → m .«pool_used» ≡ «pool_used» → m .«live_ids» ≡ «live_ids» → q ≡ noRoom (cellOf (now («record» .entry))) m) ⌝ }
 {
     let count = fields::u16_at(record, 48) as usize;
-    (comms::free_id(live_ids) == MAX_CELLS) | lacks_pages(pages, pool_used, count)
+    (id_set::free_id(live_ids) == MAX_CELLS) | lacks_pages(pages, pool_used, count)
 }
 
 // The code with which Create is refused, 0 where it is not: its rules in their order. `locked` says

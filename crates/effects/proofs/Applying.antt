@@ -28,8 +28,9 @@ use Rattle.cpu_table.specs.declared.CpuChange.{CpuChange}
 use Rattle.cpu_table.specs.declared.CpuChange.the-variants as CpuChange
 use Rattle.cpu_table.specs.CpuTable.{changeOf}
 use Rattle.cpu_table.proofs.Walk.{walk-none, walk-turn}
-use Rattle.comms.specs.Comms.{Index, Lowest, cellIndex}
-use Rattle.comms.proofs.Ids.{drop-less}
+use Rattle.id_set.specs.Ids.{Lowest}
+use Rattle.comms.specs.Comms.{Index, cellIndex}
+use Rattle.id_set.proofs.Ids.{drop-less}
 use Rattle.asking.specs.declared.Effect.{Effect}
 use Rattle.asking.specs.declared.Effect.the-variants.{NoEffect, Comes}
 use Rattle.asking.specs.Moves.{effectOf, cutOffAt}

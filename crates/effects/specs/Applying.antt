@@ -20,7 +20,7 @@ use Rattle.rules.specs.State.{withPower}
 use Rattle.rules.specs.Effects.{cpusChanged, effect}
 use Rattle.cpu_table.specs.declared.CpuChange.{CpuChange}
 use Rattle.cpu_table.specs.CpuTable.{changeOf}
-use Rattle.comms.specs.Comms.{idCount}
+use Rattle.id_set.specs.Ids.{idCount}
 use Rattle.asking.specs.declared.Effect.{Effect}
 use Rattle.asking.specs.declared.Effect.the-variants.{NoEffect, Comes}
 use Rattle.asking.specs.Moves.{effectOf, cutOffAt}

@@ -165,7 +165,7 @@ pub fn numbers_after(
         },
         CallKind::Create => Numbers {
             pool_used: pool_grown(pool_used, new.region_count),
-            live_ids: comms::add_id(live_ids, id),
+            live_ids: id_set::add_id(live_ids, id),
             root_cpus: cpu_set::without(root_cpus, new.cpus),
             cpus: new.cpus,
             how: CpuChange::Give(id, true),
@@ -186,7 +186,7 @@ pub fn numbers_after(
         },
         CallKind::Destroy => Numbers {
             pool_used: pool_given_back(pool_used, target.region_count),
-            live_ids: comms::drop_id(live_ids, id),
+            live_ids: id_set::drop_id(live_ids, id),
             root_cpus: cpu_set::union(root_cpus, target.cpus),
             cpus: target.cpus,
             how: CpuChange::Give(0, false),
@@ -375,7 +375,7 @@ fn on_cell(m: Machine, kind: CallKind, id: usize, record: &[u8]) -> Machine
 fn destroy_live(m: Machine, id: usize) -> Machine
     ensures { λ r. ⌜ ((ids : List ℕ) → allDestroyed (id ∷ ids) m ≡ allDestroyed ids r) ⌝ }
 {
-    if comms::is_live(m.live_ids, id as u64) {
+    if id_set::is_live(m.live_ids, id as u64) {
         return on_cell(m, CallKind::Destroy, id, b"");
     }
     m
@@ -451,7 +451,7 @@ fn effect_part(kind: CallKind, id: usize, live_ids: u16) -> Part
     ensures { λ r. ⌜ EffectPart kind id «live_ids» r ⌝ }
 {
     if is_disable(kind) {
-        let next = comms::lowest(comms::drop_id(live_ids, 0));
+        let next = id_set::lowest(id_set::drop_id(live_ids, 0));
         if next < MAX_CELLS {
             return Part::Change(CallKind::Destroy, next);
         }

@@ -122,7 +122,7 @@ pub fn mapping_of(m: Machine, id: u64, page: CellPage) -> Mapping
     if id == 0 {
         return root_mapping(m, page);
     }
-    if !comms::is_live(m.live_ids, id) {
+    if !id_set::is_live(m.live_ids, id) {
         return Mapping::Unmapped;
     }
     let i = id as usize;

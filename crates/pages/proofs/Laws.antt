@@ -22,9 +22,9 @@ use Rattle.machine_state.specs.Machine.{cellIn, maxCells}
 use Rattle.rules.specs.State.{hasId, live, regionsAt, first, cellIds}
 use Rattle.rules.specs.Pages.{hasPage, hasPhys, owns, shares, loads, isLoading, hasBooted, cellMayTouch, hypervisorHas, bootHas, ownerOf, openToRoot, rootMayTouch}
 use Rattle.rules.proofs.Ids.{hasId-lt}
-use Rattle.comms.specs.Choice.{choice}
-use Rattle.comms.proofs.Laws.{firstFrom, anyFrom, first-turn}
-use Rattle.comms.proofs.Laws as Ids
+use Rattle.id_set.specs.Choice.{choice}
+use Rattle.id_set.proofs.Laws.{firstFrom, anyFrom, first-turn}
+use Rattle.id_set.proofs.Laws as Ids
 use Rattle.pages.specs.declared.Sight.{Sight}
 use Rattle.pages.specs.declared.Holders.{Holders}
 use Rattle.pages.specs.Seen.{Sees, Found, ownerBy}

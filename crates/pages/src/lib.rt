@@ -120,8 +120,8 @@ fn look_at_cells(live_ids: u16, cells: [Cell; MAX_CELLS], page: PhysPage) -> Hol
         let regions = c.regions;
         let phase = c.phase;
         let seen = look_at(regions, c.region_count, page);
-        let live = comms::is_live(live_ids, i as u64);
-        owner = comms::choose(live & seen.own, i, owner);
+        let live = id_set::is_live(live_ids, i as u64);
+        owner = id_set::choose(live & seen.own, i, owner);
         shared = live & seen.shared | shared;
         loading = live & is_loading(phase) & seen.loadable | loading;
     }
@@ -233,7 +233,7 @@ fn cell_may_touch(m: Machine, id: u64, page: PhysPage) -> bool
     ensures { λ q. ⌜ q ≡ cellMayTouch page m id ⌝ }
 {
     let power = m.power;
-    if !comms::is_live(m.live_ids, id) {
+    if !id_set::is_live(m.live_ids, id) {
         return false;
     }
     let i = id as usize;

@@ -81,7 +81,7 @@ pub(crate) fn answer_to(m: Machine, s: &[u8], out: &mut [u8]) -> usize {
         return show::put_number(cpu_set::count(a) as u64, out, 0);
     }
     if has_one(s, b"free") & (a <= 0xffff) {
-        return show::put_number(comms::free_id(number16(s, 1)) as u64, out, 0);
+        return show::put_number(id_set::free_id(number16(s, 1)) as u64, out, 0);
     }
     0
 }

@@ -62,7 +62,7 @@ pub fn get_state(live_ids: u16, w: CommRegion, id: u64) -> Answer
     if id == 0 {
         return Answer::Code(0);
     }
-    if !comms::is_live(live_ids, id) {
+    if !id_set::is_live(live_ids, id) {
         return Answer::Code(ENOENT);
     }
     if (state == RUNNING) | (state == RUNNING_LOCKED) {

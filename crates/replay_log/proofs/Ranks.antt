@@ -11,7 +11,7 @@ use Rattle.cpu_set.proofs.Laws.{count-le}
 use Rattle.machine_state.specs.declared.CallKind.the-variants.{Disable, Create, Start, SetLoadable, Destroy}
 use Rattle.machine_state.specs.Machine.{maxCells}
 use Rattle.rules.specs.State.{hasId}
-use Rattle.comms.specs.Comms.{idCount}
+use Rattle.id_set.specs.Ids.{idCount}
 use Rattle.asking.specs.declared.Effect.{Effect}
 use Rattle.asking.specs.declared.Effect.the-variants.{NoEffect, Comes}
 use Rattle.effects.specs.Applying.{effectParts, partsLeft}

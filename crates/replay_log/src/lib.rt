@@ -196,10 +196,10 @@ pub fn run(kept: Replay, log: &[u8], out: &mut [u8]) -> Ran
                 }
             }
             Progress::Looking => {
-                let i = comms::lowest(left);
+                let i = id_set::lowest(left);
                 let c = cells[i];
                 found = create_rules::look(found, c, &record[0..n]);
-                left = comms::drop_id(left, i);
+                left = id_set::drop_id(left, i);
                 progress = to_decide(left);
             }
             Progress::Deciding => {
@@ -269,7 +269,7 @@ pub fn run(kept: Replay, log: &[u8], out: &mut [u8]) -> Ran
                 match part {
                     Part::Cpu(k) => {
                         cpus[k] = cpu_table::change_cpu(cpus[k], how);
-                        set = cpu_set::without(set, comms::single(k));
+                        set = cpu_set::without(set, id_set::single(k));
                     }
                     Part::CutOff(c) => {
                         comms[c] = effects::failed_words(comms[c]);

@@ -9,8 +9,8 @@ use Rattle.machine_state.specs.declared.Machine.{Machine}
 use Rattle.rules.specs.State.{active, stateAt, isLocked, idsWhere}
 use Rattle.rules.specs.Create.{otherCellLocked}
 use Rattle.comms.specs.Sets.{hasLocked}
-use Rattle.comms.proofs.Laws.{anyFrom, any-start, any-turn, any-all}
-use Rattle.comms.proofs.Sets.{has-picked}
+use Rattle.id_set.proofs.Laws.{anyFrom, any-start, any-turn, any-all}
+use Rattle.id_set.proofs.Ids.{has-picked}
 use borrow.Author.Needs.{needs}
 use Rattle.comms.proofs.is_locked_but.Statement.{statement}
 use Rattle.comms.proofs.is_locked_but.Tie as tie

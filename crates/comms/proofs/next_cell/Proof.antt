@@ -9,8 +9,8 @@ use Rattle.rules.specs.State.{idsWhere}
 use Rattle.rules.specs.Asking.{mayBeMessaged, nextToMessage}
 use Rattle.comms.specs.Comms.{among}
 use Rattle.comms.specs.declared.Whom.{Whom}
-use Rattle.comms.proofs.Laws.{firstFrom, first-start, first-turn, first-all}
-use Rattle.comms.proofs.Sets.{has-picked}
+use Rattle.id_set.proofs.Laws.{firstFrom, first-start, first-turn, first-all}
+use Rattle.id_set.proofs.Ids.{has-picked}
 use borrow.Author.Needs.{needs}
 use Rattle.comms.proofs.next_cell.Statement.{statement}
 use Rattle.comms.proofs.next_cell.Tie as tie

@@ -10,7 +10,7 @@ use lib.Count.{trailingZeros}
 use Rattle.base.proofs.Tests.{le-or-lt}
 use Rattle.cpu_set.specs.CpuSet.{member, numberOf}
 use Rattle.cpu_set.proofs.Laws.{low-bits, member-bit}
-use Rattle.comms.proofs.Zeros.{trailing-clear, trailing-set}
+use Rattle.id_set.proofs.Zeros.{trailing-clear, trailing-set}
 use borrow.Author.Needs.{needs}
 use Rattle.cpu_table.proofs.first_cpu.Statement.{statement}
 use Rattle.cpu_table.proofs.first_cpu.Tie as tie

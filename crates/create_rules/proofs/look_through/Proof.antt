@@ -5,7 +5,7 @@ use native.Mathlib.Omega.{arith}
 use Rattle.machine_state.specs.declared.Cell.{Cell}
 use Rattle.machine_state.specs.declared.Machine.{Machine}
 use Rattle.machine_state.specs.Machine.{cellIn}
-use Rattle.comms.specs.Comms.{idCount}
+use Rattle.id_set.specs.Ids.{idCount}
 use Rattle.create_rules.specs.Looks.{Looking, toLookAt}
 use Rattle.create_rules.proofs.Looks.{look-start, look-turn, look-less, look-end}
 use borrow.Author.Needs.{needs}

@@ -1,7 +1,7 @@
 -- `effects::effect_part` meets its contract: Disable's next part is the lowest live cell or none, every other effect's its own cell. Assumes nothing.
 use mathlib.Core.Path.{sym, subst, _∙_}
 use Prim.Native.Nat.{ℕ}
-use Rattle.comms.specs.Comms.{Lowest}
+use Rattle.id_set.specs.Ids.{Lowest}
 use Rattle.effects.specs.Applying.{EffectPart}
 use Rattle.effects.proofs.Applying.{own-cell, lowest-cell, none-left}
 use borrow.Author.Needs.{needs}

@@ -1,10 +1,10 @@
--- `comms::drop_id` meets its contract: the set operation, kept to 16 bits. Assumes nothing.
+-- `id_set::drop_id` meets its contract: the set operation, kept to 16 bits. Assumes nothing.
 use mathlib.Core.Path.{ap, _∙_}
 use Prim.Native.Nat.{ℕ, _%_, _^_}
-use Rattle.comms.proofs.Ids.{dropped}
+use Rattle.id_set.proofs.Ids.{dropped}
 use borrow.Author.Needs.{needs}
-use Rattle.comms.proofs.drop_id.Statement.{statement}
-use Rattle.comms.proofs.drop_id.Tie as tie
+use Rattle.id_set.proofs.drop_id.Statement.{statement}
+use Rattle.id_set.proofs.drop_id.Tie as tie
 
 returns : tie.Need-returns
 returns c =

@@ -1,9 +1,9 @@
--- `comms::is_live` meets its contract: no cell has an ID from 16 up, and below it is the ID's bit. Assumes nothing.
+-- `id_set::is_live` meets its contract: no cell has an ID from 16 up, and below it is the ID's bit. Assumes nothing.
 use borrow.Author.Tests.{lt-ltb, le-ltb}
 use Rattle.rules.specs.State.{hasId}
 use borrow.Author.Needs.{needs}
-use Rattle.comms.proofs.is_live.Statement.{statement}
-use Rattle.comms.proofs.is_live.Tie as tie
+use Rattle.id_set.proofs.is_live.Statement.{statement}
+use Rattle.id_set.proofs.is_live.Tie as tie
 
 returns : tie.Need-returns
 unfolding hasId

@@ -1,4 +1,4 @@
--- `comms::lowest` meets its contract: every bit below the count of trailing zeros is clear, and the bit at the count is set, unless the set is
+-- `id_set::lowest` meets its contract: every bit below the count of trailing zeros is clear, and the bit at the count is set, unless the set is
 -- empty. Assumes nothing.
 use mathlib.Core.Bool.{false, true}
 use mathlib.Core.Path.{_≡_, refl, _∙_}
@@ -9,12 +9,12 @@ use native.Mathlib.Omega.{arith}
 use lib.Count.{trailingZeros, trailing-le}
 use Rattle.base.proofs.Tests.{le-or-lt}
 use Rattle.rules.specs.State.{hasId}
-use Rattle.comms.specs.Comms.{Lowest}
-use Rattle.comms.proofs.Ids.{has-bit, no-ids}
-use Rattle.comms.proofs.Laws.{first-is}
-use Rattle.comms.proofs.Zeros.{trailing-clear, trailing-set}
-use Rattle.comms.proofs.lowest.Statement.{statement}
-use Rattle.comms.proofs.lowest.Tie as tie
+use Rattle.id_set.specs.Ids.{Lowest}
+use Rattle.id_set.proofs.Ids.{has-bit, no-ids}
+use Rattle.id_set.proofs.Laws.{first-is}
+use Rattle.id_set.proofs.Zeros.{trailing-clear, trailing-set}
+use Rattle.id_set.proofs.lowest.Statement.{statement}
+use Rattle.id_set.proofs.lowest.Tie as tie
 
 cast-result : tie.Need-cast-result
 cast-result c = record { fits = lt-of-le-of-lt (trailing-le 16 _) (omega arith) }

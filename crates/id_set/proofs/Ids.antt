@@ -1,4 +1,5 @@
--- The set of live IDs with one more and with one less: by the members of each number below 16. Assumes nothing.
+-- Sets of IDs: one with one more and with one less, by the members of each number below 16; one that has the IDs that pass a test, which
+-- loses an ID that no longer passes. Assumes nothing.
 use mathlib.Core.Bool.{Bool, true, false, not, _&&_, _||_, or-comm, and-comm}
 use mathlib.Core.Path.{_≡_, refl, sym, ap, ap₂, _∙_}
 use Prim.Native.Nat.{ℕ, zero, suc, _+_, _-_, _%_, _^_, _<_, _≤_}
@@ -10,11 +11,12 @@ use lib.Bits.{bitOr, or-lt}
 use lib.Dec.{eqb}
 use Rattle.cpu_set.specs.CpuSet.{bit, member, numberOf, union, without}
 use Rattle.base.proofs.Tests.{fails}
+use Rattle.machine_state.specs.Machine.{maxCells}
 use Rattle.cpu_set.proofs.Laws.{low-bits, bit-number, member-or, member-setOf, count-less}
 use Rattle.rules.specs.State.{hasId, idsWhere}
-use Rattle.comms.specs.Comms.{idCount}
+use Rattle.id_set.specs.Ids.{idCount}
 use Rattle.rules.specs.Effects.{addId, dropId}
-use Rattle.comms.proofs.Zeros.{complement-bit}
+use Rattle.id_set.proofs.Zeros.{complement-bit}
 
 -- an ID is in a set where its bit is
 pub has-bit : (ids k : ℕ) → k < 16 → hasId ids k ≡ bit k ids
@@ -101,3 +103,23 @@ drop-less id ids h t =
 -- a set of 16 bits that has no ID is empty
 pub no-ids : (ids : ℕ) → ids < 2 ^ 16 → ((k : ℕ) → k < 16 → hasId ids k ≡ false) → ids ≡ 0
 no-ids ids fits e = sym (mod-eq-of-lt fits) ∙ low-bits 16 ids (λ k. false) (λ k h. sym (has-bit ids k h) ∙ e k h) ∙ none 16
+
+-- what is found in a set of the IDs that pass a test
+pub has-picked : (ids id : ℕ) (p : ℕ → Bool) (found : Bool) → id < maxCells → ids ≡ idsWhere p → found ≡ hasId ids id → found ≡ p id
+has-picked ids id p found h e f = f ∙ ap (λ (n : ℕ). hasId n id) e ∙ has-where p id h
+
+same-picked : (n : ℕ) (p q : ℕ → Bool) → ((k : ℕ) → k < n → p k ≡ q k) → numberOf n p ≡ numberOf n q
+unfolding numberOf
+same-picked zero p q e = refl
+same-picked (suc n) p q e =
+    ap₂ (λ (b : Bool) (ids : ℕ). elim b as (λ x. ℕ) [ true ↦ ids + 2 ^ n | false ↦ ids ]) (e n (omega arith)) (same-picked n p q (λ k h. e k (omega arith)))
+
+-- where one cell no longer passes a test, and the others do as before
+pub dropped-set : (id ids : ℕ) (p q : ℕ → Bool) → ids ≡ idsWhere p → q id ≡ false → ((k : ℕ) → (k ≡ id → ⊥) → q k ≡ p k)
+    → dropId id ids ≡ idsWhere q
+unfolding dropId
+dropped-set id ids p q e own other = same-picked 16 (λ k. not (eqb k id) && hasId ids k) q (λ k h. go k h (ℕ-discrete k id))
+  where
+    go : (k : ℕ) → k < 16 → Dec (k ≡ id) → (not (eqb k id) && hasId ids k) ≡ q k
+    go k h (yes i) = rw (eq-eqb k id i) (sym (ap q i ∙ own))
+    go k h (no n) = rw (ne-eqb k id n) (has-picked ids k p (hasId ids k) h e refl ∙ sym (other k n))

@@ -1,4 +1,4 @@
--- `comms::free_id` meets its contract: the lowest ID that is not in the set, root's aside, is the first free one. Assumes nothing.
+-- `id_set::free_id` meets its contract: the lowest ID that is not in the set, root's aside, is the first free one. Assumes nothing.
 use mathlib.Core.Bool.{Bool, true, not, _||_}
 use mathlib.Core.Path.{_≡_, refl, sym, ap, _∙_}
 use Prim.Native.Nat.{ℕ, zero, suc, _-_, _^_, _<_, _≤_}
@@ -11,11 +11,11 @@ use Rattle.base.proofs.Tests.{holds, fails}
 use Rattle.cpu_set.specs.CpuSet.{bit}
 use Rattle.rules.specs.State.{hasId, first, cellIds}
 use Rattle.rules.specs.Create.{freeId}
-use Rattle.comms.proofs.Ids.{free-bit}
-use Rattle.comms.proofs.Laws.{first-is}
-use Rattle.comms.proofs.Zeros.{trailing-clear, trailing-set}
-use Rattle.comms.proofs.free_id.Statement.{statement}
-use Rattle.comms.proofs.free_id.Tie as tie
+use Rattle.id_set.proofs.Ids.{free-bit}
+use Rattle.id_set.proofs.Laws.{first-is}
+use Rattle.id_set.proofs.Zeros.{trailing-clear, trailing-set}
+use Rattle.id_set.proofs.free_id.Statement.{statement}
+use Rattle.id_set.proofs.free_id.Tie as tie
 
 cast-result : tie.Need-cast-result
 cast-result c = record { fits = lt-of-le-of-lt (trailing-le 16 _) (omega arith) }

@@ -1,10 +1,10 @@
--- `comms::add_id` meets its contract: the set operation, kept to 16 bits. Assumes nothing.
+-- `id_set::add_id` meets its contract: the set operation, kept to 16 bits. Assumes nothing.
 use mathlib.Core.Path.{ap, _∙_}
 use Prim.Native.Nat.{ℕ, _%_, _^_}
-use Rattle.comms.proofs.Ids.{added}
+use Rattle.id_set.proofs.Ids.{added}
 use borrow.Author.Needs.{needs}
-use Rattle.comms.proofs.add_id.Statement.{statement}
-use Rattle.comms.proofs.add_id.Tie as tie
+use Rattle.id_set.proofs.add_id.Statement.{statement}
+use Rattle.id_set.proofs.add_id.Tie as tie
 
 returns : tie.Need-returns
 returns c =

@@ -1,4 +1,4 @@
--- `comms::single` meets its contract: a power of two has one member, 0 none. Assumes nothing.
+-- `id_set::single` meets its contract: a power of two has one member, 0 none. Assumes nothing.
 use mathlib.Core.Path.{_≡_, sym, ap, _∙_}
 use Prim.Native.Nat.{ℕ, _*_, _%_, _^_, _<_}
 use native.Mathlib.Nat.{one-mul}
@@ -6,10 +6,10 @@ use native.Mathlib.Omega.{arith}
 use lib.Pow.{shl-exact}
 use borrow.Author.Tests.{ne-eqb}
 use Rattle.cpu_set.specs.CpuSet.{member}
-use Rattle.comms.proofs.Ids.{power-member, zero-member}
+use Rattle.id_set.proofs.Ids.{power-member, zero-member}
 use borrow.Author.Needs.{needs}
-use Rattle.comms.proofs.single.Statement.{statement}
-use Rattle.comms.proofs.single.Tie as tie
+use Rattle.id_set.proofs.single.Statement.{statement}
+use Rattle.id_set.proofs.single.Tie as tie
 
 power : (k : ℕ) → k < 64 → (1 * 2 ^ k) % 2 ^ 64 ≡ 2 ^ k
 power k h = shl-exact {a = 1} 1 k 64 (omega arith) (omega arith) ∙ one-mul (2 ^ k)
