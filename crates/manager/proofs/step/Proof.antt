@@ -3,7 +3,8 @@ use mathlib.Core.Path.{refl, _∙_}
 use mir.Syntax.{w32}
 use mir.Facts.{toZ-ofZ}
 use Rattle.rules.specs.State.{withCpus, withComm, answered}
-use Rattle.manager.proofs.Laws.{sets-there, scan-parts, all-parts, applied}
+use Rattle.decide.proofs.Shell.{sets-there, scan-parts, all-parts}
+use Rattle.manager.proofs.Laws.{applied}
 use borrow.Author.Needs.{needs}
 use Rattle.manager.proofs.step.Statement.{statement}
 use Rattle.manager.proofs.step.Tie as tie

@@ -26,7 +26,7 @@ use Rattle.asking.specs.declared.Effect.the-variants.{NoEffect}
 use Rattle.effects.specs.Parts.{changedCell}
 use Rattle.effects.specs.Applying.{partsLeft, effectParts, TableSizes, IsNext}
 use Rattle.effects.proofs.Applying.{cpu-applied, cut-applied, off-applied}
-use Rattle.manager.proofs.Laws.{sets-there, scan-parts, all-parts}
+use Rattle.decide.proofs.Shell.{sets-there, scan-parts, all-parts}
 use Rattle.replay_log.specs.Feed.{feed, goingOf, keptBytes}
 use Rattle.replay_log.proofs.Buffers.{kept-bytes}
 use Rattle.replay_log.proofs.Laws.{going}
