@@ -34,7 +34,7 @@ use Rattle.unobeyed.specs.declared.Admission.{Admission}
 use Rattle.unobeyed.specs.declared.Admission.the-variants.{Admitted, Refused}
 use Rattle.unobeyed.specs.Admission.{cpuFor, askedFor, waitedCell, cellFor, Looks, admitted, Follows, Placed}
 use Rattle.calls.specs.Calls.{CallParts, Calls}
-use Rattle.scan.specs.Scan.{scanOf}
+use Rattle.scans.specs.Scan.{scanOf}
 use Rattle.decide.specs.declared.Decision.{Decision}
 use Rattle.decide.specs.Decide.{settled, Settles, eventLooks, AllParts, Faulty}
 use Rattle.decide.proofs.Laws.{kept-cpu}

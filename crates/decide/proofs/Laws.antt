@@ -35,7 +35,7 @@ use Rattle.comms.proofs.Laws.{cell-inside}
 use Rattle.asking.specs.declared.Effect.the-variants.{NoEffect}
 use Rattle.asking.specs.declared.Move.{Move}
 use Rattle.asking.specs.Moves.{effectOf, moved, Moves, cutOffAt}
-use Rattle.scan.specs.Scan.{cellFails, scanOf}
+use Rattle.scans.specs.Scan.{cellFails, scanOf}
 use Rattle.decide.specs.declared.Decision.{Decision}
 use Rattle.decide.specs.Decide.{settled, Settles, Faulty}
 

@@ -23,7 +23,7 @@ use Rattle.comms.specs.Sets.{hasLocked, Sets}
 use Rattle.create_rules.specs.declared.Found.{Found}
 use Rattle.create_rules.specs.Looks.{asksCreate, foundLive}
 use Rattle.unobeyed.specs.Admission.{cpuFor, askedFor, cellFor}
-use Rattle.scan.specs.Scan.{scanOf, Scans}
+use Rattle.scans.specs.Scan.{scanOf, Scans}
 use Rattle.decide.specs.Decide.{eventLooks, AllParts}
 
 -- Create looks at the sets of cells

@@ -26,7 +26,7 @@ use Rattle.comms.specs.Sets.{Sets}
 use Rattle.asking.specs.Moves.{moved, pollLooks, cutOffAt}
 use Rattle.unobeyed.specs.Admission.{askedFor, Looks}
 use Rattle.calls.specs.Calls.{Parts}
-use Rattle.scan.specs.Scan.{scanOf}
+use Rattle.scans.specs.Scan.{scanOf}
 use Rattle.decide.specs.declared.Decision.{Decision}
 
 -- a decision applied: the CPU first, then the cell that is cut off, then the move

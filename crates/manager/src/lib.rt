@@ -52,7 +52,7 @@ pub fn step(m: Machine, e: Event, record: &[u8]) -> Stepped
     let messageable = comms::messageable(look, m.live_ids, comms);
     let locked = comms::locked(look, m.live_ids, comms);
     let found = create_rules::look_through(e, m.live_ids, cells, record);
-    let scan = scan::scan(
+    let scan = scans::scan(
         system,
         m.pool_used,
         m.live_ids,

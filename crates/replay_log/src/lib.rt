@@ -213,7 +213,7 @@ pub fn run(kept: Replay, log: &[u8], out: &mut [u8]) -> Ran
                 let look = decide::looks(event, w, waiting);
                 let messageable = comms::messageable(look, live_ids, comms);
                 let locked = comms::locked(look, live_ids, comms);
-                let scan = scan::scan(
+                let scan = scans::scan(
                     system,
                     pool_used,
                     live_ids,

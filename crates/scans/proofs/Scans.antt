@@ -25,7 +25,7 @@ use Rattle.unobeyed.specs.Admission.{cpuFor, cellFor}
 use Rattle.create_rules.specs.declared.Found.{Found}
 use Rattle.create_rules.specs.Looks.{asksCreate}
 use Rattle.create_rules.specs.Rows.{createCode}
-use Rattle.scan.specs.Scan.{cellFails, scanOf, Scans}
+use Rattle.scans.specs.Scan.{cellFails, scanOf, Scans}
 
 -- the event that an arm knows
 pub scan-at : (bytes : List ℕ) (m : Machine) (r : ℤ) {e known : Event} → e ≡ known → r ≡ scanOf known bytes m → r ≡ scanOf e bytes m

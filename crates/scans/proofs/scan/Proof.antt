@@ -1,4 +1,4 @@
--- `scan::scan` meets its contract: each arm is its case of the definition. A Create is looked at where its call is counted, which changes nothing
+-- `scans::scan` meets its contract: each arm is its case of the definition. A Create is looked at where its call is counted, which changes nothing
 -- that its rows look at. Assumes nothing.
 use mathlib.Core.Path.{refl, _∙_}
 use mir.Syntax.{w32}
@@ -7,11 +7,11 @@ use Rattle.rules.specs.State.{withCpus, active}
 use Rattle.rules.specs.Create.{otherCellLocked, regionInUse}
 use Rattle.rules.specs.Effects.{counted, callCounter}
 use Rattle.create_rules.specs.Looks.{foundLive}
-use Rattle.scan.specs.Scan.{scanOf}
-use Rattle.scan.proofs.Scans.{scan-at, create-asked, scan-create, scan-other, scan-fails, scan-holds, fault-found}
+use Rattle.scans.specs.Scan.{scanOf}
+use Rattle.scans.proofs.Scans.{scan-at, create-asked, scan-create, scan-other, scan-fails, scan-holds, fault-found}
 use borrow.Author.Needs.{needs}
-use Rattle.scan.proofs.scan.Statement.{statement}
-use Rattle.scan.proofs.scan.Tie as tie
+use Rattle.scans.proofs.scan.Statement.{statement}
+use Rattle.scans.proofs.scan.Tie as tie
 
 returns : tie.Need-returns
 unfolding counted withCpus foundLive regionInUse otherCellLocked active

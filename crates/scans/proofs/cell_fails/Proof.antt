@@ -3,8 +3,8 @@ use mathlib.Core.Path.{ap₂}
 use mathlib.Core.Bool.{Bool, not, _&&_}
 use lib.Dec.{ltb, eqb}
 use borrow.Author.Needs.{needs}
-use Rattle.scan.proofs.cell_fails.Statement.{statement}
-use Rattle.scan.proofs.cell_fails.Tie as tie
+use Rattle.scans.proofs.cell_fails.Statement.{statement}
+use Rattle.scans.proofs.cell_fails.Tie as tie
 
 returns : tie.Need-returns
 returns c =

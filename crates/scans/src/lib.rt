@@ -8,7 +8,7 @@ ghost use Rattle.machine_state.specs.declared.Machine.{Machine};
 ghost use Rattle.machine_state.specs.Machine.{cpuIn, maxCells};
 ghost use Rattle.rules.specs.State.{rootId, isFinal};
 ghost use Rattle.rules.specs.Effects.{failCpu, allFailed};
-ghost use Rattle.scan.specs.Scan.{scanOf, Scans};
+ghost use Rattle.scans.specs.Scan.{scanOf, Scans};
 use create_rules::Found;
 use machine_state::CELL_CREATE;
 use machine_state::Cpu;
