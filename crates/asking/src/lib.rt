@@ -1,13 +1,12 @@
-// Asking cells, telling them, and hearing their replies: what a call that asks, or a poll, does,
-// decided from the sets of cells, the words of the cell waited for and the waiting call alone.
+// Asking cells, telling them, and hearing their replies: what a call that asks, or hears a cell, does,
+// decided from the sets of cells and the words of the cell heard alone.
 ghost use mathlib.Core.Path.{_≡_};
 ghost use mathlib.Core.Bool.{false};
 ghost use Prim.Native.Nat.{ℕ, _<_};
 ghost use Rattle.rules.specs.State.{withWaiting, answered};
-ghost use Rattle.rules.specs.Effects.{cellCutOff};
-ghost use Rattle.rules.specs.Asking.{asks, tells as tells-of, isDestroy, endCode, waitFor, finished, carryOut, noneToAsk, ask as ask-of, isHeard, hear as hear-of, isLastPoll, pollCell, poll as poll-of};
+ghost use Rattle.rules.specs.Asking.{asks, tells as tells-of, isDestroy, endCode, waitFor, finished, carryOut, noneToAsk, ask as ask-of, hear as hear-of};
 ghost use Rattle.comms.specs.Comms.{among};
-ghost use Rattle.asking.specs.Moves.{effectOf, AnyMachine, WithSets, Hears, pollLooks, Polls, tellNext, Moves, PollMoves};
+ghost use Rattle.asking.specs.Moves.{effectOf, AnyMachine, WithSets, Hears, tellNext, Moves};
 use base::EPERM;
 use comms::CellSets;
 use comms::Whom;
@@ -15,11 +14,9 @@ use comms::WordsChange;
 use machine_state::Answer;
 use machine_state::CallKind;
 use machine_state::CommRegion;
-use machine_state::FAILED;
 use machine_state::MAX_CELLS;
 use machine_state::RECONFIG_COMPLETED;
 use machine_state::SHUTDOWN_REQUEST;
-use machine_state::STATE_WORD;
 use machine_state::Stage;
 use machine_state::Waiting;
 
@@ -40,7 +37,7 @@ pub struct Move {
 }
 
 // A move that changes no words.
-fn keep_words(answer: Answer, effect: Effect, waiting: Waiting) -> Move
+pub fn keep_words(answer: Answer, effect: Effect, waiting: Waiting) -> Move
     ensures { λ r. ⌜ Moves AnyMachine (λ new m. answered answer (withWaiting waiting (effectOf effect new m))) r ⌝ }
 {
     Move {
@@ -194,7 +191,7 @@ pub fn ask(cells: CellSets, kind: CallKind, target: usize, after: usize) -> Move
 }
 
 // What the reply of a heard cell, whose words are `w`, leads to.
-fn hear(cells: CellSets, w: CommRegion, kind: CallKind, stage: Stage) -> Move
+pub fn hear(cells: CellSets, w: CommRegion, kind: CallKind, stage: Stage) -> Move
     ensures { λ r. ⌜ Moves (Hears cells w stage) (hear-of kind stage) r ⌝ }
 {
     let cell = stage.cell;
@@ -207,106 +204,5 @@ fn hear(cells: CellSets, w: CommRegion, kind: CallKind, stage: Stage) -> Move
         ask(cells, kind, target, cell)
     } else {
         finish(EPERM, Effect::NoEffect)
-    }
-}
-
-// Whether the poll that comes after `polls` others is the last that a limit allows.
-fn is_last_poll(limit: u16, polls: u16) -> bool
-    ensures { λ r. ⌜ r ≡ isLastPoll limit polls ⌝ }
-{
-    !(limit == 0) & (limit as u32 <= polls as u32 + 1)
-}
-
-// What a poll does: the cell that its limit cuts off, `MAX_CELLS` for none, and then the move.
-pub struct Polled {
-    pub cut: usize,
-    pub moves: Move,
-}
-
-// A poll at which the cell waited for, whose words are `w`, is cut off, and then heard as final.
-fn cut_off(cells: CellSets, w: CommRegion, kind: CallKind, stage: Stage) -> Polled
-    requires { ⌜ stage .cell < 16 ⌝ }
-    ensures { λ r. ⌜ PollMoves (Hears cells w stage) (λ new m. hear-of kind stage new (cellCutOff (stage .cell) m)) r ⌝ }
-{
-    let cell = stage.cell;
-    let failed = comms::change_words(w, WordsChange::Store(STATE_WORD, FAILED));
-    let others = comms::without_cell(cells, cell);
-    Polled {
-        cut: cell,
-        moves: hear(others, failed, kind, stage),
-    }
-}
-
-// A poll that hears nothing from a cell with a limit, whose words are `w`: the last one cuts the cell
-// off, and any other is counted.
-fn unheard(cells: CellSets, w: CommRegion, kind: CallKind, stage: Stage) -> Polled
-    requires { ⌜ (stage .cell < 16) × (isHeard w ≡ false) × (w .«reply_limit» ≡ 0 → ⊥) ⌝ }
-    ensures { λ r. ⌜ PollMoves (Polls cells w (Waiting.Pending kind stage)) (pollCell kind stage) r ⌝ }
-{
-    if is_last_poll(w.reply_limit, stage.polls) {
-        return cut_off(cells, w, kind, stage);
-    }
-    let mut next = stage;
-    next.polls = stage.polls + 1;
-    Polled {
-        cut: MAX_CELLS,
-        moves: keep_words(
-            Answer::Wait(stage.cell),
-            Effect::NoEffect,
-            Waiting::Pending(kind, next),
-        ),
-    }
-}
-
-// A poll of a waiting call: looks at the cell waited for, at whose place the words `w` stand.
-fn poll_cell(cells: CellSets, w: CommRegion, kind: CallKind, stage: Stage) -> Polled
-    ensures { λ r. ⌜ PollMoves (Polls cells w (Waiting.Pending kind stage)) (pollCell kind stage) r ⌝ }
-{
-    let cell = stage.cell;
-    let limit = w.reply_limit;
-    if MAX_CELLS <= cell {
-        return Polled {
-            cut: MAX_CELLS,
-            moves: stay(Answer::Wait(cell), Waiting::Pending(kind, stage)),
-        };
-    }
-    if comms::is_heard(w) {
-        return Polled {
-            cut: MAX_CELLS,
-            moves: hear(cells, w, kind, stage),
-        };
-    }
-    if limit == 0 {
-        return Polled {
-            cut: MAX_CELLS,
-            moves: stay(Answer::Wait(cell), Waiting::Pending(kind, stage)),
-        };
-    }
-    unheard(cells, w, kind, stage)
-}
-
-// Whether a poll looks at other cells than the one waited for, at whose place the words `w` stand.
-pub fn looks(w: CommRegion, waiting: Waiting) -> bool
-    ensures { λ r. ⌜ r ≡ pollLooks w waiting ⌝ }
-{
-    match waiting {
-        Waiting::NoCall => false,
-        Waiting::Pending(_, stage) => {
-            comms::is_heard(w) | is_last_poll(w.reply_limit, stage.polls)
-        }
-    }
-}
-
-// A poll; at the place of the cell waited for, if one is, the words `w` stand. `cells` matter only
-// where the poll looks at them.
-pub fn poll(cells: CellSets, w: CommRegion, waiting: Waiting) -> Polled
-    ensures { λ r. ⌜ PollMoves (Polls cells w waiting) (poll-of waiting) r ⌝ }
-{
-    match waiting {
-        Waiting::NoCall => Polled {
-            cut: MAX_CELLS,
-            moves: stay(Answer::Idle, waiting),
-        },
-        Waiting::Pending(kind, stage) => poll_cell(cells, w, kind, stage),
     }
 }

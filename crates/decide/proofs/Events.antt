@@ -28,8 +28,9 @@ use Rattle.cpu_table.proofs.Laws.{cpu-inside}
 use Rattle.comms.specs.declared.CellSets.{CellSets}
 use Rattle.comms.specs.Comms.{cellIndex}
 use Rattle.asking.specs.declared.Move.{Move}
-use Rattle.asking.specs.declared.Polled.{Polled}
-use Rattle.asking.specs.Moves.{moved, cutOffAt, PollMoves, Polls}
+use Rattle.asking.specs.Moves.{moved, cutOffAt}
+use Rattle.polling.specs.declared.Polled.{Polled}
+use Rattle.polling.specs.Polls.{PollMoves, Polls}
 use Rattle.unobeyed.specs.declared.Admission.{Admission}
 use Rattle.unobeyed.specs.declared.Admission.the-variants.{Admitted, Refused}
 use Rattle.unobeyed.specs.Admission.{cpuFor, askedFor, waitedCell, cellFor, Looks, admitted, Follows, Placed}

@@ -23,7 +23,8 @@ use Rattle.rules.specs.Step.{step}
 use Rattle.cpu_table.specs.CpuTable.{touched}
 use Rattle.comms.specs.declared.CellSets.{CellSets}
 use Rattle.comms.specs.Sets.{Sets}
-use Rattle.asking.specs.Moves.{moved, pollLooks, cutOffAt}
+use Rattle.asking.specs.Moves.{moved, cutOffAt}
+use Rattle.polling.specs.Polls.{pollLooks}
 use Rattle.unobeyed.specs.Admission.{askedFor, Looks}
 use Rattle.calls.specs.Calls.{Parts}
 use Rattle.scans.specs.Scan.{scanOf}

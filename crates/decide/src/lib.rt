@@ -161,7 +161,7 @@ fn obey(
         Event::Fault(cpu) => fault(scan, p, waiting, cpu),
         Event::Exit(cpu, kind) => exit(waiting, cpu, kind),
         Event::Poll => {
-            let polled = asking::poll(cells, w, waiting);
+            let polled = polling::poll(cells, w, waiting);
             let moves = polled.moves;
             Decision {
                 cpu: 0,
@@ -183,7 +183,7 @@ pub fn looks(e: Event, w: CommRegion, waiting: Waiting) -> bool
         Event::Store(_, _, _) => false,
         Event::Fault(_) => false,
         Event::Exit(_, _) => false,
-        Event::Poll => asking::looks(w, waiting),
+        Event::Poll => polling::looks(w, waiting),
         Event::Malformed => false,
     }
 }

@@ -1,8 +1,8 @@
--- `asking::is_last_poll` meets its contract: it is the definition. Assumes nothing.
+-- `polling::is_last_poll` meets its contract: it is the definition. Assumes nothing.
 use Rattle.rules.specs.Asking.{isLastPoll}
 use borrow.Author.Needs.{needs}
-use Rattle.asking.proofs.is_last_poll.Statement.{statement}
-use Rattle.asking.proofs.is_last_poll.Tie as tie
+use Rattle.polling.proofs.is_last_poll.Statement.{statement}
+use Rattle.polling.proofs.is_last_poll.Tie as tie
 
 returns : tie.Need-returns
 unfolding isLastPoll

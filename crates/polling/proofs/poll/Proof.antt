@@ -1,11 +1,12 @@
--- `asking::poll` meets its contract: by whether a call waits. Assumes nothing.
+-- `polling::poll` meets its contract: by whether a call waits. Assumes nothing.
 use mathlib.Core.Path.{sym, ap, _∙_}
 use Rattle.machine_state.specs.declared.Waiting.{Waiting}
 use Rattle.rules.specs.Asking.{poll}
-use Rattle.asking.proofs.Laws.{moves-as, moves-uncut, poll-as}
+use Rattle.asking.proofs.Laws.{moves-as}
+use Rattle.polling.proofs.Laws.{moves-uncut, poll-as}
 use borrow.Author.Needs.{needs}
-use Rattle.asking.proofs.poll.Statement.{statement}
-use Rattle.asking.proofs.poll.Tie as tie
+use Rattle.polling.proofs.poll.Statement.{statement}
+use Rattle.polling.proofs.poll.Tie as tie
 
 returns : tie.Need-returns
 unfolding poll

@@ -1,14 +1,15 @@
--- `asking::unheard` meets its contract: by whether this is the limit's last poll. Where it is not, the count stays below the limit. Assumes nothing.
+-- `polling::unheard` meets its contract: by whether this is the limit's last poll. Where it is not, the count stays below the limit. Assumes nothing.
 use mathlib.Core.Path.{sym, _∙_}
 use Prim.Native.Nat.{_+_, _^_, _<_}
 use native.Mathlib.Omega.{arith}
 use Rattle.rules.specs.Asking.{withPolls}
 use Rattle.unobeyed.specs.Admission.{waitedCell}
 use Rattle.asking.specs.Moves.{effectOf}
-use Rattle.asking.proofs.Laws.{moves-as, moves-uncut, poll-as, looks-last, polled-last, polled-counted, inside-words, count-fits}
+use Rattle.asking.proofs.Laws.{moves-as}
+use Rattle.polling.proofs.Laws.{moves-uncut, poll-as, looks-last, polled-last, polled-counted, inside-words, count-fits}
 use borrow.Author.Needs.{needs}
-use Rattle.asking.proofs.unheard.Statement.{statement}
-use Rattle.asking.proofs.unheard.Tie as tie
+use Rattle.polling.proofs.unheard.Statement.{statement}
+use Rattle.polling.proofs.unheard.Tie as tie
 
 returns : tie.Need-returns
 unfolding waitedCell

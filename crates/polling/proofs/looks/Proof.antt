@@ -1,10 +1,10 @@
--- `asking::looks` meets its contract: by whether a call waits. Assumes nothing.
+-- `polling::looks` meets its contract: by whether a call waits. Assumes nothing.
 use mathlib.Core.Bool.{Bool, _||_}
 use mathlib.Core.Path.{sym, ap, ap₂, _∙_}
-use Rattle.asking.specs.Moves.{pollLooks}
+use Rattle.polling.specs.Polls.{pollLooks}
 use borrow.Author.Needs.{needs}
-use Rattle.asking.proofs.looks.Statement.{statement}
-use Rattle.asking.proofs.looks.Tie as tie
+use Rattle.polling.proofs.looks.Statement.{statement}
+use Rattle.polling.proofs.looks.Tie as tie
 
 returns : tie.Need-returns
 unfolding pollLooks

@@ -1,8 +1,8 @@
--- `asking::cut_off` meets its contract: the cell's words, failed, the sets without it, and what is heard from them. Assumes nothing.
-use Rattle.asking.proofs.Laws.{cuts}
+-- `polling::cut_off` meets its contract: the cell's words, failed, the sets without it, and what is heard from them. Assumes nothing.
+use Rattle.polling.proofs.Laws.{cuts}
 use borrow.Author.Needs.{needs}
-use Rattle.asking.proofs.cut_off.Statement.{statement}
-use Rattle.asking.proofs.cut_off.Tie as tie
+use Rattle.polling.proofs.cut_off.Statement.{statement}
+use Rattle.polling.proofs.cut_off.Tie as tie
 
 returns : tie.Need-returns
 returns c =

@@ -1,10 +1,11 @@
--- `asking::poll_cell` meets its contract: by whether the cell is in the table, whether it is heard, and whether it has a limit. Assumes nothing.
+-- `polling::poll_cell` meets its contract: by whether the cell is in the table, whether it is heard, and whether it has a limit. Assumes nothing.
 use mathlib.Core.Path.{sym, _∙_}
 use Rattle.unobeyed.specs.Admission.{waitedCell}
-use Rattle.asking.proofs.Laws.{moves-as, moves-uncut, looks-heard, polled-heard, polled-silent, polled-past, inside-words}
+use Rattle.asking.proofs.Laws.{moves-as}
+use Rattle.polling.proofs.Laws.{moves-uncut, looks-heard, polled-heard, polled-silent, polled-past, inside-words}
 use borrow.Author.Needs.{needs}
-use Rattle.asking.proofs.poll_cell.Statement.{statement}
-use Rattle.asking.proofs.poll_cell.Tie as tie
+use Rattle.polling.proofs.poll_cell.Statement.{statement}
+use Rattle.polling.proofs.poll_cell.Tie as tie
 
 returns : tie.Need-returns
 returns c =
