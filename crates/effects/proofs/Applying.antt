@@ -212,7 +212,7 @@ module _ (m : Machine) (size : length (m .cpus) ≡ maxCpus) where
         all-applied is = only-effect ∙ ap (λ (x : Effect). effectOf x new m) is
 
 -- past the table no cell is cut off
-uncut-stays : (cut : ℕ) (m : Machine) → maxCells ≤ cut → cutOffAt cut m ≡ m
+pub uncut-stays : (cut : ℕ) (m : Machine) → maxCells ≤ cut → cutOffAt cut m ≡ m
 unfolding cutOffAt
 uncut-stays cut m h = ap (λ (b : Bool). elim b as (λ x. Machine) [ true ↦ cellCutOff cut m | false ↦ m ]) (le-ltb cut maxCells h)
 

@@ -1,15 +1,11 @@
-// What the effect of a call makes of the machine's parts. The two shells that hold a machine, the
-// entry for one event and the loop over a log, store each part in its place.
+// What the effect of a call makes of the machine's parts. Each part is stored in its place by
+// `apply`, for the entry of one event, and by the loop over a log.
 ghost use mathlib.Core.Path.{_≡_};
-ghost use mathlib.Core.Bool.{false};
-ghost use Prim.Native.Nat.{ℕ, _+_, _-_, _%_, _^_};
+ghost use Prim.Native.Nat.{_+_, _-_, _%_, _^_};
 ghost use Rattle.cell_record.specs.CellRecord.{cellOf};
-ghost use mathlib.Core.List.{List, _∷_};
-ghost use Rattle.rules.specs.State.{withPower};
-ghost use Rattle.rules.specs.Effects.{poolCost, newCell, withPhase, clearWords, withState, effect as effect-of, allDestroyed, disabled};
-ghost use Rattle.asking.specs.Moves.{effectOf, cutOffAt};
+ghost use Rattle.rules.specs.Effects.{poolCost, newCell, withPhase, clearWords, withState};
 ghost use Rattle.effects.specs.Applying.{restOf, EffectPart, IsNext, TableSizes};
-ghost use Rattle.effects.specs.Parts.{isDisable, figuresOf, targetOf, numbersAfter, within, kindChange, cellChange, changedCell, newWords, wordsAfter};
+ghost use Rattle.effects.specs.Parts.{isDisable, figuresOf, targetOf, numbersAfter, within, kindChange, cellChange, newWords, wordsAfter};
 use asking::Effect;
 use cpu_table::CpuChange;
 use machine_state::CallKind;
@@ -19,9 +15,7 @@ use machine_state::Cpu;
 use machine_state::FAILED;
 use machine_state::MAX_CELLS;
 use machine_state::MAX_CPUS;
-use machine_state::Machine;
 use machine_state::Phase;
-use machine_state::Power;
 use machine_state::SHUT_DOWN;
 
 // What a record says that Create's effect needs beside the cell itself.
@@ -247,18 +241,6 @@ pub fn with_phase(phase: Phase, c: Cell) -> Cell
     }
 }
 
-// What stands at a cell's place after a change, where `c` stood.
-fn cell_after(change: CellChange, record: &[u8], c: Cell) -> Cell
-    ensures { λ r. ⌜ r ≡ changedCell change (cellOf (now («record» .entry))) c ⌝ }
-{
-    match change {
-        CellChange::Keep => c,
-        CellChange::New => new_cell(record),
-        CellChange::Phase(phase) => with_phase(phase, c),
-        CellChange::Empty => machine_state::no_cell(),
-    }
-}
-
 // The communication words of a created cell.
 fn new_comm(new: Figures) -> CommRegion
     ensures { λ r. ⌜ r ≡ newWords new ⌝ }
@@ -324,111 +306,6 @@ pub fn failed_words(w: CommRegion) -> CommRegion
     let mut next = w;
     next.cell_state = FAILED;
     next
-}
-
-// The machine with a cell cut off by its reply limit; a number past the table names none.
-pub fn cut_off(m: Machine, cut: usize) -> Machine
-    ensures { λ r. ⌜ r ≡ cutOffAt cut m ⌝ }
-{
-    if cut < MAX_CELLS {
-        let mut next = m;
-        let cpus = m.cpus;
-        next.comms[cut] = failed_words(m.comms[cut]);
-        next.cpus = cpu_table::change_cpus(m.cells[cut].cpus, CpuChange::Stop, cpus);
-        return next;
-    }
-    m
-}
-
-// The machine after the effect of a call on one cell.
-fn on_cell(m: Machine, kind: CallKind, id: usize, record: &[u8]) -> Machine
-    ensures { λ r. ⌜ (isDisable kind ≡ false → r ≡ effect-of kind id (cellOf (now («record» .entry))) m) ⌝ }
-{
-    let mut next = m;
-    let cells = m.cells;
-    let comms = m.comms;
-    let cpus = m.cpus;
-    table_sizes(cells, comms, cpus);
-    let i = comms::cell_index(id);
-    let new = figures_of(record);
-    let numbers = numbers_after(
-        kind,
-        id,
-        m.cells[i].cpus,
-        m.cells[i].region_count,
-        new,
-        m.pool_used,
-        m.live_ids,
-        m.root_cpus,
-    );
-    let how = numbers.how;
-    next.pool_used = numbers.pool_used;
-    next.live_ids = numbers.live_ids;
-    next.root_cpus = numbers.root_cpus;
-    next.cells[i] = cell_after(cell_change(kind, id), record, m.cells[i]);
-    next.comms[i] = words_after(kind, id, new, m.comms[i]);
-    next.cpus = cpu_table::change_cpus(numbers.cpus, how, cpus);
-    next
-}
-
-// The machine after cell `id`, if it is live, was destroyed.
-fn destroy_live(m: Machine, id: usize) -> Machine
-    ensures { λ r. ⌜ ((ids : List ℕ) → allDestroyed (id ∷ ids) m ≡ allDestroyed ids r) ⌝ }
-{
-    if id_set::is_live(m.live_ids, id as u64) {
-        return on_cell(m, CallKind::Destroy, id, b"");
-    }
-    m
-}
-
-// The machine, off.
-fn switch_off(m: Machine) -> Machine
-    ensures { λ r. ⌜ r ≡ withPower Power.Disabled m ⌝ }
-{
-    let system = m.system;
-    let cells = m.cells;
-    let comms = m.comms;
-    let cpus = m.cpus;
-    let waiting = m.waiting;
-    Machine {
-        power: Power::Disabled,
-        system,
-        pool_used: m.pool_used,
-        live_ids: m.live_ids,
-        root_cpus: m.root_cpus,
-        cells,
-        comms,
-        cpus,
-        waiting,
-    }
-}
-
-// The machine after Disable: all cells destroyed, then off.
-pub fn disable(m: Machine) -> Machine
-    ensures { λ r. ⌜ r ≡ disabled m ⌝ }
-{
-    let mut next = m;
-    let mut i = 1;
-    while i < MAX_CELLS {
-        next = destroy_live(next, i);
-        i += 1;
-    }
-    switch_off(next)
-}
-
-// The machine after an effect. A call with code 1 comes with its record's bytes.
-pub fn carry_out(m: Machine, effect: Effect, record: &[u8]) -> Machine
-    ensures { λ r. ⌜ r ≡ effectOf effect (cellOf (now («record» .entry))) m ⌝ }
-{
-    match effect {
-        Effect::NoEffect => m,
-        Effect::Comes(kind, id) => {
-            if is_disable(kind) {
-                return disable(m);
-            }
-            on_cell(m, kind, id, record)
-        }
-    }
 }
 
 // What is left of an effect after a change of one cell: Disable comes back until it has switched off.

@@ -1,34 +1,10 @@
 // The manager's one entry for the shim: a machine, one event, one answer.
 ghost use mathlib.Core.Path.{_≡_};
-ghost use Rattle.rules.specs.State.{withWaiting};
 ghost use Rattle.rules.specs.Step.{step as step-of};
 use comms::CellSets;
 use machine_state::Event;
 use machine_state::Machine;
 use machine_state::Stepped;
-use machine_state::Waiting;
-
-// The machine with another waiting call.
-pub fn with_waiting(m: Machine, waiting: Waiting) -> Machine
-    ensures { λ r. ⌜ r ≡ withWaiting waiting m ⌝ }
-{
-    let power = m.power;
-    let system = m.system;
-    let cells = m.cells;
-    let comms = m.comms;
-    let cpus = m.cpus;
-    Machine {
-        power,
-        system,
-        pool_used: m.pool_used,
-        live_ids: m.live_ids,
-        root_cpus: m.root_cpus,
-        cells,
-        comms,
-        cpus,
-        waiting,
-    }
-}
 
 // One event: its answer and the machine after it. A call with code 1 comes with its record's bytes.
 pub fn step(m: Machine, e: Event, record: &[u8]) -> Stepped
@@ -97,11 +73,11 @@ pub fn step(m: Machine, e: Event, record: &[u8]) -> Stepped
     let call = moves.waiting;
     let mut next = m;
     next.cpus[cpu] = cpu_table::change_cpu(m.cpus[cpu], touch);
-    next = effects::cut_off(next, cut);
-    next = effects::carry_out(next, effect, record);
+    next = apply::cut_off(next, cut);
+    next = apply::carry_out(next, effect, record);
     next.comms[cell] = comms::change_words(next.comms[cell], words);
     Stepped {
         answer,
-        machine: with_waiting(next, call),
+        machine: apply::with_waiting(next, call),
     }
 }

@@ -1,7 +1,6 @@
 -- `effects::clear_words` meets its contract: it is the definition. Assumes nothing.
 use mathlib.Core.Path.{refl}
 use Rattle.rules.specs.Effects.{clearWords}
-use borrow.Author.Needs.{needs}
 use Rattle.effects.proofs.clear_words.Statement.{statement}
 use Rattle.effects.proofs.clear_words.Tie as tie
 

@@ -1,6 +1,5 @@
 -- `effects::figures_of` meets its contract: each figure is the record's value of that name. Assumes nothing.
-use mathlib.Core.Path.{ap}
-use Prim.Native.Nat.{ℕ, _%_}
+use Prim.Native.Nat.{_%_}
 use lib.Dec.{eqb}
 use Rattle.cell_record.specs.CellRecord.{cellOf}
 use Rattle.effects.specs.Parts.{figuresOf}

@@ -1,7 +1,6 @@
 -- `effects::loadable_words` meets its contract: it is the definition. Assumes nothing.
 use mathlib.Core.Path.{refl}
 use Rattle.rules.specs.Effects.{storeWord}
-use borrow.Author.Needs.{needs}
 use Rattle.effects.proofs.loadable_words.Statement.{statement}
 use Rattle.effects.proofs.loadable_words.Tie as tie
 

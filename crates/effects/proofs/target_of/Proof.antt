@@ -1,7 +1,6 @@
 -- `effects::target_of` meets its contract: the tables have a place for each cell. Assumes nothing.
 use borrow.Author.Tests.{lt-ltb, le-ltb}
 use Rattle.effects.specs.Parts.{within, targetOf}
-use borrow.Author.Needs.{needs}
 use Rattle.effects.proofs.target_of.Statement.{statement}
 use Rattle.effects.proofs.target_of.Tie as tie
 

@@ -1,7 +1,6 @@
 -- `effects::with_phase` meets its contract: it is the definition. Assumes nothing.
 use mathlib.Core.Path.{refl}
 use Rattle.rules.specs.Effects.{withPhase}
-use borrow.Author.Needs.{needs}
 use Rattle.effects.proofs.with_phase.Statement.{statement}
 use Rattle.effects.proofs.with_phase.Tie as tie
 

@@ -1,9 +1,9 @@
--- `effects::carry_out` meets its contract: none, Disable's, or the effect on one cell. Assumes nothing.
+-- `apply::carry_out` meets its contract: none, Disable's, or the effect on one cell. Assumes nothing.
 use mathlib.Core.Path.{sym, _∙_}
-use Rattle.effects.proofs.Laws.{no-effect, disable-comes, effect-comes}
+use Rattle.apply.proofs.Laws.{no-effect, disable-comes, effect-comes}
 use borrow.Author.Needs.{needs}
-use Rattle.effects.proofs.carry_out.Statement.{statement}
-use Rattle.effects.proofs.carry_out.Tie as tie
+use Rattle.apply.proofs.carry_out.Statement.{statement}
+use Rattle.apply.proofs.carry_out.Tie as tie
 
 returns : tie.Need-returns
 returns c =

@@ -1,13 +1,13 @@
--- `effects::on_cell` meets its contract: the parts, stored at the cell's place, make the rule's machine. Assumes nothing.
+-- `apply::on_cell` meets its contract: the parts, stored at the cell's place, make the rule's machine. Assumes nothing.
 use mathlib.Core.Path.{_≡_, ap, _∙_}
 use borrow.Author.Needs.{needs}
 use Rattle.cell_record.specs.declared.CellConfig.{CellConfig}
 use Rattle.machine_state.specs.declared.Cell.{Cell}
 use Rattle.effects.specs.declared.CellChange.{CellChange}
 use Rattle.effects.specs.Parts.{changedCell, partsStored}
 use Rattle.effects.proofs.Laws.{stored-is-effect}
-use Rattle.effects.proofs.on_cell.Statement.{statement}
-use Rattle.effects.proofs.on_cell.Tie as tie
+use Rattle.apply.proofs.on_cell.Statement.{statement}
+use Rattle.apply.proofs.on_cell.Tie as tie
 
 as-change : (change known : CellChange) (new : CellConfig) (c r : Cell) → r ≡ changedCell change new c → change ≡ known → r ≡ changedCell known new c
 as-change change known new c r e f = e ∙ ap (λ (x : CellChange). changedCell x new c) f

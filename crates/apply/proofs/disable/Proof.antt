@@ -1,16 +1,15 @@
--- `effects::disable` meets its contract: the loop's invariant: destroying the cells from i up makes of the machine what destroying all makes of the first. Assumes nothing.
+-- `apply::disable` meets its contract: the loop's invariant: destroying the cells from i up makes of the machine what destroying all makes of the first. Assumes nothing.
 use mathlib.Core.Path.{_≡_, refl, sym, ap, _∙_}
 use native.Mathlib.Numerals.{add-one-le}
 use Prim.Native.Nat.{_-_, _≤_}
-use native.Mathlib.Omega.{arith}
 use Rattle.base.specs.Lists.{from}
 use Rattle.machine_state.specs.declared.Power.the-variants.{Disabled}
 use Rattle.rules.specs.State.{withPower, cellIds}
 use Rattle.rules.specs.Effects.{allDestroyed, disabled}
-use Rattle.effects.proofs.Laws.{destroy-turn, destroy-end}
+use Rattle.apply.proofs.Laws.{destroy-turn, destroy-end}
 use borrow.Author.Needs.{needs}
-use Rattle.effects.proofs.disable.Statement.{statement}
-use Rattle.effects.proofs.disable.Tie as tie
+use Rattle.apply.proofs.disable.Statement.{statement}
+use Rattle.apply.proofs.disable.Tie as tie
 
 abbrev Inv-loop : tie.InvT-loop
 Inv-loop m₀ i₀ m i = (i ≤ 16) × (allDestroyed (from i (16 - i)) m ≡ allDestroyed cellIds m₀)

@@ -1,10 +1,11 @@
--- `effects::cut_off` meets its contract: the cell's words and its CPUs, stored in their places. Assumes nothing.
-use mathlib.Core.Path.{_≡_}
+-- `apply::cut_off` meets its contract: the cell's words and its CPUs, stored in their places. Assumes nothing.
+use mathlib.Core.Path.{sym}
 use Rattle.rules.specs.State.{withCpus, withComm}
-use Rattle.effects.proofs.Laws.{cut-stored, none-cut}
+use Rattle.effects.proofs.Applying.{uncut-stays}
+use Rattle.apply.proofs.Laws.{cut-stored}
 use borrow.Author.Needs.{needs}
-use Rattle.effects.proofs.cut_off.Statement.{statement}
-use Rattle.effects.proofs.cut_off.Tie as tie
+use Rattle.apply.proofs.cut_off.Statement.{statement}
+use Rattle.apply.proofs.cut_off.Tie as tie
 
 returns : tie.Need-returns
 unfolding withCpus withComm
@@ -15,7 +16,7 @@ returns c =
     cut-stored _ (entry .args .t1) _ _ (test .if1 .taken) (words .failed-words .ensures) (c .change-cpus .ensures)
 
 returns-2 : tie.Need-returns-2
-returns-2 c = none-cut _ _ (c .if1 .left)
+returns-2 c = sym (uncut-stays _ _ (c .if1 .left))
 
 pub cut-off-spec : {M : Type 1} → statement M
 cut-off-spec =

@@ -1,10 +1,10 @@
--- `effects::destroy_live` meets its contract: by whether the cell is live. Assumes nothing.
-use mathlib.Core.Path.{refl, sym, ap, _∙_}
+-- `apply::destroy_live` meets its contract: by whether the cell is live. Assumes nothing.
+use mathlib.Core.Path.{refl, sym, _∙_}
 use Rattle.effects.specs.Parts.{isDisable}
-use Rattle.effects.proofs.Laws.{live-destroyed, absent-stays}
+use Rattle.apply.proofs.Laws.{live-destroyed, absent-stays}
 use borrow.Author.Needs.{needs}
-use Rattle.effects.proofs.destroy_live.Statement.{statement}
-use Rattle.effects.proofs.destroy_live.Tie as tie
+use Rattle.apply.proofs.destroy_live.Statement.{statement}
+use Rattle.apply.proofs.destroy_live.Tie as tie
 
 returns : tie.Need-returns
 unfolding isDisable

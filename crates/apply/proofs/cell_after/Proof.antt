@@ -1,12 +1,12 @@
--- `effects::cell_after` meets its contract: each arm is its case of the definition. Assumes nothing.
+-- `apply::cell_after` meets its contract: each arm is its case of the definition. Assumes nothing.
 use mathlib.Core.Path.{_≡_, sym, ap, _∙_}
 use Rattle.cell_record.specs.declared.CellConfig.{CellConfig}
 use Rattle.machine_state.specs.declared.Cell.{Cell}
 use Rattle.effects.specs.declared.CellChange.{CellChange}
 use Rattle.effects.specs.Parts.{changedCell}
 use borrow.Author.Needs.{needs}
-use Rattle.effects.proofs.cell_after.Statement.{statement}
-use Rattle.effects.proofs.cell_after.Tie as tie
+use Rattle.apply.proofs.cell_after.Statement.{statement}
+use Rattle.apply.proofs.cell_after.Tie as tie
 
 by : (change known : CellChange) (new : CellConfig) (c : Cell) → change ≡ known → changedCell known new c ≡ changedCell change new c
 by change known new c e = sym (ap (λ (x : CellChange). changedCell x new c) e)
