@@ -20,15 +20,14 @@ use machine_state::Power;
 use machine_state::Waiting;
 
 // The machine with a cell cut off by its reply limit; a number past the table names none.
-pub fn cut_off(m: Machine, cut: usize) -> Machine
+pub fn cut_off(mut m: Machine, cut: usize) -> Machine
     ensures { λ r. ⌜ r ≡ cutOffAt cut m ⌝ }
 {
     if cut < MAX_CELLS {
-        let mut next = m;
         let cpus = m.cpus;
-        next.comms[cut] = effects::failed_words(m.comms[cut]);
-        next.cpus = cpu_table::change_cpus(m.cells[cut].cpus, CpuChange::Stop, cpus);
-        return next;
+        m.comms[cut] = effects::failed_words(m.comms[cut]);
+        m.cpus = cpu_table::change_cpus(m.cells[cut].cpus, CpuChange::Stop, cpus);
+        return m;
     }
     m
 }
@@ -46,34 +45,32 @@ fn cell_after(change: CellChange, record: &[u8], c: Cell) -> Cell
 }
 
 // The machine after the effect of a call on one cell.
-fn on_cell(m: Machine, kind: CallKind, id: usize, record: &[u8]) -> Machine
+fn on_cell(mut m: Machine, kind: CallKind, id: usize, record: &[u8]) -> Machine
     ensures { λ r. ⌜ (isDisable kind ≡ false → r ≡ effect-of kind id (cellOf (now («record» .entry))) m) ⌝ }
 {
-    let mut next = m;
-    let cells = m.cells;
-    let comms = m.comms;
     let cpus = m.cpus;
-    effects::table_sizes(cells, comms, cpus);
     let i = comms::cell_index(id);
+    let c = m.cells[i];
+    let w = m.comms[i];
     let new = effects::figures_of(record);
     let numbers = effects::numbers_after(
         kind,
         id,
-        m.cells[i].cpus,
-        m.cells[i].region_count,
+        c.cpus,
+        c.region_count,
         new,
         m.pool_used,
         m.live_ids,
         m.root_cpus,
     );
     let how = numbers.how;
-    next.pool_used = numbers.pool_used;
-    next.live_ids = numbers.live_ids;
-    next.root_cpus = numbers.root_cpus;
-    next.cells[i] = cell_after(effects::cell_change(kind, id), record, m.cells[i]);
-    next.comms[i] = effects::words_after(kind, id, new, m.comms[i]);
-    next.cpus = cpu_table::change_cpus(numbers.cpus, how, cpus);
-    next
+    m.pool_used = numbers.pool_used;
+    m.live_ids = numbers.live_ids;
+    m.root_cpus = numbers.root_cpus;
+    m.cells[i] = cell_after(effects::cell_change(kind, id), record, c);
+    m.comms[i] = effects::words_after(kind, id, new, w);
+    m.cpus = cpu_table::change_cpus(numbers.cpus, how, cpus);
+    m
 }
 
 // The machine after cell `id`, if it is live, was destroyed.
@@ -109,16 +106,15 @@ fn switch_off(m: Machine) -> Machine
 }
 
 // The machine after Disable: all cells destroyed, then off.
-pub fn disable(m: Machine) -> Machine
+pub fn disable(mut m: Machine) -> Machine
     ensures { λ r. ⌜ r ≡ disabled m ⌝ }
 {
-    let mut next = m;
     let mut i = 1;
     while i < MAX_CELLS {
-        next = destroy_live(next, i);
+        m = destroy_live(m, i);
         i += 1;
     }
-    switch_off(next)
+    switch_off(m)
 }
 
 // The machine after an effect. A call with code 1 comes with its record's bytes.

@@ -22,4 +22,4 @@ returns-3 c =
     (c .on-cell .ensures (sym (test .before .is-disable .ensures) ∙ test .if1 .left))
 
 pub carry-out-spec : {M : Type 1} → statement M
-carry-out-spec = tie.close (tie.spec (λ c. search needs) (λ c. search needs) (λ c κs. search needs) (λ c κs. search needs) returns (λ c κs. search needs) returns-2 returns-3)
+carry-out-spec = tie.close (tie.spec (λ c. search needs) (λ c. search needs) (λ c κs. tt) (λ c κs. tt) returns (λ c κs. tt) returns-2 returns-3)

@@ -28,4 +28,4 @@ unfolding changedCell
 returns-4 c = c .no-cell .ensures ∙ by _ _ _ _ (c .before .enum-told3 .given .1)
 
 pub cell-after-spec : {M : Type 1} → statement M
-cell-after-spec = tie.close (tie.spec (λ c. search needs) (λ c. search needs) (λ c κs. search needs) (λ c. search needs) (λ c κs. search needs) (λ c. search needs) (λ c κs. search needs) returns returns-2 returns-3 returns-4)
+cell-after-spec = tie.close (tie.spec (λ c. search needs) (λ c. search needs) (λ c κs. tt) (λ c. search needs) (λ c κs. tt) (λ c. search needs) (λ c κs. tt) returns returns-2 returns-3 returns-4)

@@ -20,4 +20,4 @@ returns-2 c = sym (uncut-stays _ _ (c .if1 .left))
 
 pub cut-off-spec : {M : Type 1} → statement M
 cut-off-spec =
-    tie.close (tie.spec (λ c. search needs) (λ c. search needs) (λ c κs. search needs) (λ c. search needs) (λ c. search needs) (λ c. search needs) (λ c. search needs) (λ c κs. search needs) returns returns-2)
+    tie.close (tie.spec (λ c. search needs) (λ c. search needs) (λ c κs. tt) (λ c. search needs) (λ c. search needs) (λ c. search needs) (λ c. search needs) (λ c κs. tt) returns returns-2)

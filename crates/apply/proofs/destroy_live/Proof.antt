@@ -16,4 +16,4 @@ returns-2 : tie.Need-returns-2
 returns-2 c ids = absent-stays _ _ ids (sym (c .before .is-live .ensures) ∙ c .if1 .left)
 
 pub destroy-live-spec : {M : Type 1} → statement M
-destroy-live-spec = tie.close (tie.spec (λ c κs. search needs) (λ c. search needs) (λ c κs. search needs) returns returns-2)
+destroy-live-spec = tie.close (tie.spec (λ c κs. tt) (λ c. search needs) (λ c κs. tt) returns returns-2)

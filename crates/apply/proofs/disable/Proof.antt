@@ -32,4 +32,4 @@ returns c =
     c .switch-off .ensures ∙ ap (withPower Disabled) (sym (destroy-end (l .i) _ (c .before .loop-test .left)) ∙ l .inv .1)
 
 pub disable-spec : {M : Type 1} → statement M
-disable-spec = tie.close (tie.spec Inv-loop μ-loop loop-holds (λ c κs. search needs) (λ c. search needs) (λ c. search needs) loop-again (λ c κs. search needs) returns)
+disable-spec = tie.close (tie.spec Inv-loop μ-loop loop-holds (λ c κs. tt) (λ c. search needs) (λ c. search needs) loop-again (λ c κs. tt) returns)
