@@ -1,13 +1,20 @@
 -- `create_rules::conflict` meets its contract: it is the definition, with what its parts ensure. Assumes nothing.
+use mathlib.Core.Bool.{not, _&&_}
 use Rattle.regions.specs.Regions.{overlapPhys}
 use Rattle.rules.specs.Create.{conflict}
-use borrow.Author.Needs.{needs}
 use Rattle.create_rules.proofs.conflict.Statement.{statement}
 use Rattle.create_rules.proofs.conflict.Tie as tie
 
 returns : tie.Need-returns
 unfolding conflict overlapPhys
-returns c = cc
+returns c =
+    let first = c .before in
+    let meet = first .before in
+    let other = meet .before in
+    λ i. not (other .before .is-comm .ensures i)
+    && not (other .is-comm2 .ensures i)
+    && meet .overlap .ensures i
+    && not (first .is-shared .ensures i && c .is-shared2 .ensures i)
 
 pub conflict-spec : {M : Type 1} → statement M
-conflict-spec = tie.close (tie.spec (λ c κs. search needs) (λ c κs. search needs) (λ c κs. search needs) (λ c κs. search needs) (λ c κs. search needs) returns)
+conflict-spec = tie.close (tie.spec (λ c κs. tt) (λ c κs. tt) (λ c κs. tt) (λ c κs. tt) (λ c κs. tt) returns)

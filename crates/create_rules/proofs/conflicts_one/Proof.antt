@@ -41,4 +41,4 @@ returns c =
     l .inv .1 ∙ ap (any _) (take-used _ _ _ _ (l .i) size (c .before .before .used .ensures) (l .inv .0) (c .loop-test .left))
 
 pub conflicts-one-spec : {M : Type 1} → statement M
-conflicts-one-spec = tie.close (tie.spec Inv-loop μ-loop (λ c κs. search needs) loop-holds (λ c. search needs) (λ c. search needs) (λ c κs. search needs) (λ c. search needs) (λ c. search needs) loop-again returns)
+conflicts-one-spec = tie.close (tie.spec Inv-loop μ-loop (λ c κs. tt) loop-holds (λ c. search needs) (λ c. search needs) (λ c κs. tt) (λ c. search needs) (λ c. search needs) loop-again returns)

@@ -5,7 +5,6 @@ use Rattle.base.proofs.Rules.{rule-holds, rule-passed, no-rule}
 use Rattle.cell_record.specs.CellRecord.{cellOf}
 use Rattle.create_rules.specs.Rows.{useCode}
 use Rattle.create_rules.proofs.Laws.{name-is, busy-is}
-use borrow.Author.Needs.{needs}
 use Rattle.create_rules.proofs.in_use.Statement.{statement}
 use Rattle.create_rules.proofs.in_use.Tie as tie
 
@@ -38,4 +37,4 @@ returns-3 c m n r f =
     ∙ rule-passed _ _ _ (name-is _ m _ f _ _ n (own .same-name .ensures ∙ ap (same _) (own .before .name .ensures)) ∙ other .if1 .left)
 
 pub in-use-spec : {M : Type 1} → statement M
-in-use-spec = tie.close (tie.spec (λ c κs. search needs) (λ c κs. search needs) returns (λ c κs. search needs) (λ c κs. search needs) (λ c κs. search needs) returns-2 returns-3)
+in-use-spec = tie.close (tie.spec (λ c κs. tt) (λ c κs. tt) returns (λ c κs. tt) (λ c κs. tt) (λ c κs. tt) returns-2 returns-3)

@@ -2,7 +2,6 @@
 use mathlib.Core.Path.{ap}
 use mathlib.Core.Bool.{Bool, _||_}
 use Rattle.create_rules.specs.Looks.{together, lookedAt}
-use borrow.Author.Needs.{needs}
 use Rattle.create_rules.proofs.look.Statement.{statement}
 use Rattle.create_rules.proofs.look.Tie as tie
 
@@ -18,4 +17,4 @@ returns c =
     }
 
 pub look-spec : {M : Type 1} → statement M
-look-spec = tie.close (tie.spec (λ c κs. search needs) (λ c κs. search needs) returns)
+look-spec = tie.close (tie.spec (λ c κs. tt) (λ c κs. tt) returns)

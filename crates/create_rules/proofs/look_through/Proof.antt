@@ -8,7 +8,6 @@ use Rattle.machine_state.specs.Machine.{cellIn}
 use Rattle.id_set.specs.Ids.{idCount}
 use Rattle.create_rules.specs.Looks.{Looking, toLookAt}
 use Rattle.create_rules.proofs.Looks.{look-start, look-turn, look-less, look-end}
-use borrow.Author.Needs.{needs}
 use Rattle.create_rules.proofs.look_through.Statement.{statement}
 use Rattle.create_rules.proofs.look_through.Tie as tie
 
@@ -44,4 +43,4 @@ returns c m u t q =
     look-end (l .loop .inv m t) _ (c .loop-test .left) (l .before .to-look-at .ensures ∙ ap (toLookAt _) (sym u)) q
 
 pub look-through-spec : {M : Type 1} → statement M
-look-through-spec = tie.close (tie.spec Inv-loop μ-loop (λ c κs. search needs) (λ c κs. search needs) loop-holds (λ c κs. search needs) mul-c array-copy-out-c (λ c κs. search needs) (λ c κs. search needs) loop-less loop-again returns)
+look-through-spec = tie.close (tie.spec Inv-loop μ-loop (λ c κs. tt) (λ c κs. tt) loop-holds (λ c κs. tt) mul-c array-copy-out-c (λ c κs. tt) (λ c κs. tt) loop-less loop-again returns)

@@ -53,4 +53,4 @@ returns c =
     ∙ any-exchange conflict rs (cellRegions (cellOf bytes))
 
 pub meets-spec : {M : Type 1} → statement M
-meets-spec = tie.close (tie.spec Inv-loop μ-loop (λ c κs. search needs) loop-holds (λ c κs. search needs) (λ c κs. search needs) (λ c. search needs) (λ c. search needs) loop-again returns)
+meets-spec = tie.close (tie.spec Inv-loop μ-loop (λ c κs. tt) loop-holds (λ c κs. tt) (λ c κs. tt) (λ c. search needs) (λ c. search needs) loop-again returns)

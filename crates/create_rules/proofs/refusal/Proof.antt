@@ -8,7 +8,6 @@ use Rattle.system_record.specs.declared.SystemConfig.{SystemConfig}
 use Rattle.cell_record.specs.CellRecord.{cellOf}
 use Rattle.create_rules.specs.Rows.{createCode}
 use Rattle.create_rules.proofs.Laws.{invalid-is, full-code, use-code}
-use borrow.Author.Needs.{needs}
 use Rattle.create_rules.proofs.refusal.Statement.{statement}
 use Rattle.create_rules.proofs.refusal.Tie as tie
 
@@ -66,4 +65,4 @@ returns-5 c m s u l r k f =
     ∙ rule-passed _ _ _ (le-ltb _ _ (short .if2 .left)) ∙ rule-passed _ _ _ (sym k ∙ unlocked .if1 .left)
 
 pub refusal-spec : {M : Type 1} → statement M
-refusal-spec = tie.close (tie.spec returns returns-2 (λ c κs. search needs) (λ c κs. search needs) (λ c κs. search needs) returns-3 (λ c κs. search needs) (λ c κs. search needs) returns-4 returns-5)
+refusal-spec = tie.close (tie.spec returns returns-2 (λ c κs. tt) (λ c κs. tt) (λ c κs. tt) returns-3 (λ c κs. tt) (λ c κs. tt) returns-4 returns-5)

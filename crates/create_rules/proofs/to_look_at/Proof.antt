@@ -1,7 +1,6 @@
 -- `create_rules::to_look_at` meets its contract: by whether the event is a Create. Assumes nothing.
 use mathlib.Core.Path.{sym, _∙_}
 use Rattle.create_rules.specs.Looks.{toLookAt}
-use borrow.Author.Needs.{needs}
 use Rattle.create_rules.proofs.to_look_at.Statement.{statement}
 use Rattle.create_rules.proofs.to_look_at.Tie as tie
 
@@ -14,4 +13,4 @@ unfolding toLookAt
 returns-2 c = rw (sym (c .before .asks-create .ensures) ∙ c .if1 .left, toLookAt)
 
 pub to-look-at-spec : {M : Type 1} → statement M
-to-look-at-spec = tie.close (tie.spec (λ c κs. search needs) (λ c κs. search needs) returns returns-2)
+to-look-at-spec = tie.close (tie.spec (λ c κs. tt) (λ c κs. tt) returns returns-2)
