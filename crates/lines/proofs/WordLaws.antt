@@ -8,11 +8,13 @@ use native.Mathlib.Nat.{not-suc-le-zero}
 use native.Mathlib.Numerals.{add-one}
 use native.Mathlib.Omega.{arith}
 use borrow.Author.Tests.{eq-eqb, ne-eqb}
+use mir.Syntax.{w64}
+use mir.Val.{Fits}
 use lib.Dec.{eqb}
 use lib.ListN.{length, take, drop, getD, length-drop, drop-of-length-le}
 use lib.Seq.{drop-cons, drop-drop, take-all}
 use Rattle.base.proofs.Tests.{le-or-lt}
-use Rattle.lines.specs.Lines.{space, intoFirst, lineWords}
+use Rattle.lines.specs.Lines.{maxLine, space, intoFirst, lineWords}
 use Rattle.lines.specs.Reading.{untilSpace, wordEnd}
 
 -- one turn of the walk to the end of a word, and its end
@@ -36,6 +38,10 @@ until-le (b ∷ bs) = by-test (eqb b space) (until-le bs)
     by-test : (t : Bool) → untilSpace bs ≤ length bs → elim t as (λ x. ℕ) [ true ↦ 0 | false ↦ suc (untilSpace bs) ] ≤ suc (length bs)
     by-test true h = omega arith
     by-test false h = omega arith
+
+-- the place behind a word's end, in a line that is not too long
+pub next-fits : (e n : ℕ) → e < n → n ≤ maxLine → Fits w64 (e + 1)
+next-fits e n h l = record { fits = omega arith }
 
 pub start-le : (s : List ℕ) (at e : ℕ) → e ≡ wordEnd at s → at ≤ e
 start-le s at e q = omega arith

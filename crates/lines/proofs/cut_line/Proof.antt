@@ -3,11 +3,10 @@
 use Prim.Native.Nat.{zero-le}
 use native.Mathlib.Numerals.{add-one-le}
 use native.Mathlib.Omega.{arith}
-use Rattle.lines.proofs.WordLaws.{start-le, end-le, word-more, word-last, then, some-word}
+use Rattle.lines.proofs.WordLaws.{next-fits, start-le, end-le, word-more, word-last, then, some-word}
 use Rattle.lines.proofs.EventLaws.{six-words}
 use Rattle.lines.proofs.RecordLaws.{one-word-only, two-words-only, more-words}
 use Rattle.lines.proofs.CutLaws.{cut-plain, cut-long, cut-three}
-use borrow.Author.Needs.{needs}
 use Rattle.lines.proofs.cut_line.Statement.{statement}
 use Rattle.lines.proofs.cut_line.Tie as tie
 
@@ -120,4 +119,4 @@ returns-7 c =
     (more-words _ _ _ _ _) (six-words _ _ _ _ _ _ _) (c .plain6 .ensures)
 
 pub cut-line-spec : {M : Type 1} → statement M
-cut-line-spec = tie.close (tie.spec (λ c κs. search needs) returns (λ c κs. search needs) (λ c. search needs) (λ c. search needs) part-w-end (λ c κs. search needs) (λ c κs. search needs) returns-2 (λ c. search needs) (λ c κs. search needs) (λ c. search needs) (λ c. search needs) part-a-end (λ c κs. search needs) (λ c κs. search needs) returns-3 (λ c. search needs) (λ c κs. search needs) (λ c. search needs) (λ c. search needs) part-b-end (λ c κs. search needs) (λ c κs. search needs) returns-4 (λ c. search needs) (λ c κs. search needs) (λ c. search needs) (λ c. search needs) part-c-end (λ c κs. search needs) (λ c κs. search needs) returns-5 (λ c. search needs) (λ c κs. search needs) (λ c. search needs) (λ c. search needs) part-five-words-end (λ c κs. search needs) (λ c κs. search needs) returns-6 (λ c κs. search needs) returns-7)
+cut-line-spec = tie.close (tie.spec (λ c κs. tt) returns (λ c κs. tt) (λ c. start-le _ _ _ (c .word-end .ensures)) (λ c. start-le _ _ _ (c .word-end .ensures)) part-w-end (λ c κs. tt) (λ c κs. tt) returns-2 (λ c. next-fits _ _ (c .if2 .left) (c .before .before .before .if1 .left)) (λ c κs. tt) (λ c. start-le _ _ _ (c .word-end2 .ensures)) (λ c. start-le _ _ _ (c .word-end2 .ensures)) part-a-end (λ c κs. tt) (λ c κs. tt) returns-3 (λ c. next-fits _ _ (c .if3 .left) (c .before .before .before .before .before .before .if1 .left)) (λ c κs. tt) (λ c. start-le _ _ _ (c .word-end3 .ensures)) (λ c. start-le _ _ _ (c .word-end3 .ensures)) part-b-end (λ c κs. tt) (λ c κs. tt) returns-4 (λ c. next-fits _ _ (c .if4 .left) (c .before .before .before .before .before .before .before .before .before .if1 .left)) (λ c κs. tt) (λ c. start-le _ _ _ (c .word-end4 .ensures)) (λ c. start-le _ _ _ (c .word-end4 .ensures)) part-c-end (λ c κs. tt) (λ c κs. tt) returns-5 (λ c. next-fits _ _ (c .if5 .left) (c .before .before .before .before .before .before .before .before .before .before .before .before .if1 .left)) (λ c κs. tt) (λ c. start-le _ _ _ (c .before .word-end5 .ensures)) (λ c. start-le _ _ _ (c .before .word-end5 .ensures)) part-five-words-end (λ c κs. tt) (λ c κs. tt) returns-6 (λ c κs. tt) returns-7)

@@ -16,4 +16,4 @@ returns-2 c =
     ∙ call-said _ _ _ _ _ _ _ _ _ _ (c .before .before .before .before .before .is-word .ensures) (c .before .before .before .before .before .before .before .before .before .before .word-number .ensures) (c .before .before .before .before .before .before .before .before .before .word32-number .ensures .0) (c .before .before .before .before .before .before .before .before .word-number2 .ensures) (c .before .before .before .before .before .before .before .word-number3 .ensures)
 
 pub five-words-spec : {M : Type 1} → statement M
-five-words-spec = tie.close (tie.spec (λ c κs. search needs) (λ c κs. search needs) (λ c κs. search needs) (λ c κs. search needs) (λ c. search needs) (λ c κs. search needs) (λ c. search needs) returns returns-2)
+five-words-spec = tie.close (tie.spec (λ c κs. tt) (λ c κs. tt) (λ c κs. tt) (λ c κs. tt) (λ c. search needs) (λ c κs. tt) (λ c. search needs) returns returns-2)

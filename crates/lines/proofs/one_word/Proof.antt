@@ -12,4 +12,4 @@ returns-2 : tie.Need-returns-2
 returns-2 c = refused _ _ _ (c .if1 .left) ∙ poll-said _ _ (c .before .is-word .ensures)
 
 pub one-word-spec : {M : Type 1} → statement M
-one-word-spec = tie.close (tie.spec (λ c. search needs) (λ c κs. search needs) returns returns-2)
+one-word-spec = tie.close (tie.spec (λ c. search needs) (λ c κs. tt) returns returns-2)

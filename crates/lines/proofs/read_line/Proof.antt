@@ -26,4 +26,4 @@ returns c =
     }
 
 pub read-line-spec : {M : Type 1} → statement M
-read-line-spec = tie.close (tie.spec (λ c κs. search needs) (λ c. search needs) (λ c. search needs) (λ c. search needs) decode-requires (λ c. search needs) returns)
+read-line-spec = tie.close (tie.spec (λ c κs. tt) (λ c. search needs) (λ c. search needs) (λ c. search needs) decode-requires (λ c. search needs) returns)

@@ -12,4 +12,4 @@ returns-2 : tie.Need-returns-2
 returns-2 c = refused _ _ _ (c .if1 .left) ∙ fault-said _ _ _ _ (c .before .before .is-word .ensures) (c .before .before .before .before .word-number .ensures)
 
 pub two-words-spec : {M : Type 1} → statement M
-two-words-spec = tie.close (tie.spec (λ c κs. search needs) (λ c. search needs) (λ c κs. search needs) returns returns-2)
+two-words-spec = tie.close (tie.spec (λ c κs. tt) (λ c. search needs) (λ c κs. tt) returns returns-2)

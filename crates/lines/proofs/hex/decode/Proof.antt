@@ -43,4 +43,4 @@ returns : tie.Need-returns Inv-loop μ-loop
 returns c = (omega (arith, length-bytes (now (c .before .before .before .before .before .args .w))), c .before .loop .inv .1)
 
 pub decode-spec : {M : Type 1} → statement M
-decode-spec = tie.close (tie.spec Inv-loop μ-loop (λ c κs. search needs) loop-holds (λ c. search needs) (λ c. search needs) hex-digit-requires (λ c. search needs) (λ c. search needs) hex-digit-requires-2 (λ c. search needs) (λ c. search needs) (λ c. search needs) (λ c. search needs) (λ c. search needs) loop-again same-length returns)
+decode-spec = tie.close (tie.spec Inv-loop μ-loop (λ c κs. tt) loop-holds (λ c. search needs) (λ c. search needs) hex-digit-requires (λ c. search needs) (λ c. search needs) hex-digit-requires-2 (λ c. search needs) (λ c. search needs) (λ c. search needs) (λ c. search needs) (λ c. search needs) loop-again same-length returns)

@@ -35,4 +35,4 @@ returns-3 : tie.Need-returns-3 Inv-loop μ-loop
 returns-3 c = even-pairs _ _ _ (c .before .before .before .if1 .left) (c .before .before .if2 .left) (c .loop-test .left) (c .before .loop .inv)
 
 pub is-hex-spec : {M : Type 1} → statement M
-is-hex-spec = tie.close (tie.spec Inv-loop μ-loop returns returns-2 loop-holds (λ c. search needs) (λ c κs. search needs) (λ c. search needs) (λ c. search needs) loop-again returns-3)
+is-hex-spec = tie.close (tie.spec Inv-loop μ-loop returns returns-2 loop-holds (λ c. search needs) (λ c κs. tt) (λ c. search needs) (λ c. search needs) loop-again returns-3)

@@ -16,4 +16,4 @@ returns-3 : tie.Need-returns-3
 returns-3 c = c .digits-of .ensures ∙ all-digits _ (c .before .before .before .if1 .left) (c .before .if2 .left)
 
 pub word-number-spec : {M : Type 1} → statement M
-word-number-spec = tie.close (tie.spec returns (λ c. search needs) returns-2 (λ c κs. search needs) returns-3)
+word-number-spec = tie.close (tie.spec returns (λ c. search needs) returns-2 (λ c κs. tt) returns-3)
