@@ -3,7 +3,6 @@ use Prim.Native.Nat.{_<_, _≤_}
 use mathlib.Core.Path.{sym}
 use native.Mathlib.Omega.{arith}
 use Rattle.comms.proofs.Laws.{cell-inside, cell-outside}
-use borrow.Author.Needs.{needs}
 use Rattle.comms.proofs.cell_index.Statement.{statement}
 use Rattle.comms.proofs.cell_index.Tie as tie
 

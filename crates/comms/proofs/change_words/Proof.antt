@@ -23,4 +23,4 @@ unfolding wordsOf
 returns-3 c = c .message .ensures ∙ case _ (c .before .before .how2 .given .1)
 
 pub change-words-spec : {M : Type 1} → statement M
-change-words-spec = tie.close (tie.spec (λ c. search needs) (λ c. search needs) (λ c κs. search needs) (λ c. search needs) (λ c κs. search needs) returns returns-2 returns-3)
+change-words-spec = tie.close (tie.spec (λ c. search needs) (λ c. search needs) (λ c κs. tt) (λ c. search needs) (λ c κs. tt) returns returns-2 returns-3)

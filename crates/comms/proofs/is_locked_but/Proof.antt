@@ -59,4 +59,4 @@ unfolding otherCellLocked
 returns c = let l = c .before .loop in λ m e. l .inv .2 m e ∙ any-all _ (l .i) (l .inv .0) (omega arith)
 
 pub is-locked-but-spec : {M : Type 1} → statement M
-is-locked-but-spec = tie.close (tie.spec Inv-loop μ-loop loop-holds (λ c. search needs) (λ c κs. search needs) (λ c. search needs) loop-again returns)
+is-locked-but-spec = tie.close (tie.spec Inv-loop μ-loop loop-holds (λ c. search needs) (λ c κs. tt) (λ c. search needs) loop-again returns)

@@ -40,4 +40,4 @@ returns-2 : tie.Need-returns-2 Inv-loop μ-loop
 returns-2 c w = let l = c .before .loop in let all : 16 ≤ l .i = omega arith in gathers-all (l .inv) all
 
 pub messageable-spec : {M : Type 1} → statement M
-messageable-spec = tie.close (tie.spec Inv-loop μ-loop returns (λ c. gathers-none) (λ c. search needs) (λ c. search needs) (λ c κs. search needs) add-where-requires (λ c. search needs) (λ c. search needs) loop-again returns-2)
+messageable-spec = tie.close (tie.spec Inv-loop μ-loop returns (λ c. gathers-none) (λ c. search needs) (λ c. search needs) (λ c κs. tt) add-where-requires (λ c. search needs) (λ c. search needs) loop-again returns-2)

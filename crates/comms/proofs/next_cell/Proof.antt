@@ -50,4 +50,4 @@ unfolding nextToMessage
 returns c = let l = c .before .loop in λ m e. l .inv .2 m e ∙ first-all _ (l .i) (l .inv .0) (omega arith)
 
 pub next-cell-spec : {M : Type 1} → statement M
-next-cell-spec = tie.close (tie.spec Inv-loop μ-loop loop-holds (λ c. search needs) (λ c κs. search needs) (λ c κs. search needs) (λ c κs. search needs) (λ c. search needs) loop-again returns)
+next-cell-spec = tie.close (tie.spec Inv-loop μ-loop loop-holds (λ c. search needs) (λ c κs. tt) (λ c κs. tt) (λ c κs. tt) (λ c. search needs) loop-again returns)

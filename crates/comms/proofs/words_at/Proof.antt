@@ -15,4 +15,4 @@ returns-2 c =
     c .no-comm .ensures ∙ sym (List·getD-eq-default (a .args .t1) pastComm (omega arith))
 
 pub words-at-spec : {M : Type 1} → statement M
-words-at-spec = tie.close (tie.spec (λ c. search needs) (λ c. search needs) (λ c κs. search needs) (λ c. search needs) returns-2)
+words-at-spec = tie.close (tie.spec (λ c. search needs) (λ c. search needs) (λ c κs. tt) (λ c. search needs) returns-2)

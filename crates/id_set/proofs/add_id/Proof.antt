@@ -12,4 +12,4 @@ returns c =
     ap (λ (n : ℕ). n % 2 ^ 16) (c .union .ensures) ∙ added (a .«live-ids») (c .before .single .result) (a .id) (c .before .single .ensures)
 
 pub add-id-spec : {M : Type 1} → statement M
-add-id-spec = tie.close (tie.spec (λ c κs. search needs) (λ c κs. search needs) (λ c. search needs) returns)
+add-id-spec = tie.close (tie.spec (λ c κs. tt) (λ c κs. tt) (λ c. search needs) returns)
