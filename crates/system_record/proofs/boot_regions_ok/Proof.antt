@@ -48,4 +48,4 @@ returns c =
     ∙ ap (all (ok-beside (a .hypervisor))) (sym (record-regions (now (a .s))))
 
 pub boot-regions-ok-spec : {M : Type 1} → statement M
-boot-regions-ok-spec = tie.close (tie.spec Inv-loop μ-loop (λ c κs. search needs) loop-holds (λ c. search needs) (λ c. search needs) (λ c. search needs) (λ c κs. search needs) (λ c κs. search needs) (λ c. search needs) (λ c. search needs) loop-again returns)
+boot-regions-ok-spec = tie.close (tie.spec Inv-loop μ-loop (λ c κs. tt) loop-holds (λ c. search needs) (λ c. search needs) (λ c. search needs) (λ c κs. tt) (λ c κs. tt) (λ c. search needs) (λ c. search needs) loop-again returns)

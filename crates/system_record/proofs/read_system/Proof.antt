@@ -4,7 +4,6 @@ use mathlib.Core.Path.{_∙_}
 use mir.Syntax.{w32}
 use mir.Facts.{toZ-ofZ}
 use Rattle.system_record.specs.SystemRecord.{readSystem}
-use borrow.Author.Needs.{needs}
 use Rattle.system_record.proofs.read_system.Statement.{statement}
 use Rattle.system_record.proofs.read_system.Tie as tie
 
@@ -15,4 +14,4 @@ returns c =
     λ i. record { code = code i; config = c .before .system-of .ensures i }
 
 pub read-system-spec : {M : Type 1} → statement M
-read-system-spec = tie.close (tie.spec (λ c κs. search needs) (λ c κs. search needs) returns)
+read-system-spec = tie.close (tie.spec (λ c κs. tt) (λ c κs. c .system-of .ensures) returns)
