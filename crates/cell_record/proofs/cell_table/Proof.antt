@@ -35,4 +35,4 @@ returns c =
     filled-all _ _ _ (l .table) (l .inv .1) _ _ (l .i) (c .before .before .before .region-count .ensures) (l .inv .0) (c .loop-test .left) (l .inv .2)
 
 pub cell-table-spec : {M : Type 1} → statement M
-cell-table-spec = tie.close (tie.spec Inv-loop μ-loop (λ c κs. search needs) (λ c. search needs) (λ c κs. search needs) loop-holds (λ c. search needs) (λ c. search needs) (λ c κs. search needs) (λ c. search needs) (λ c. search needs) (λ c. search needs) (λ c. search needs) loop-again returns)
+cell-table-spec = tie.close (tie.spec Inv-loop μ-loop (λ c κs. tt) (λ c. search needs) (λ c κs. tt) loop-holds (λ c. search needs) (λ c. search needs) (λ c κs. tt) (λ c. search needs) (λ c. search needs) (λ c. search needs) (λ c. search needs) loop-again returns)

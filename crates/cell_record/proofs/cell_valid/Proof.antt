@@ -34,4 +34,4 @@ returns c =
     λ i. is-name i && not (no-cpu i) && kept .regions-ok .ensures i && apart-all i && (comm .has-comm .ensures i || passive i)
 
 pub cell-valid-spec : {M : Type 1} → statement M
-cell-valid-spec = tie.close (tie.spec (λ c κs. search needs) (λ c. search needs) (λ c κs. search needs) (λ c κs. search needs) (λ c κs. search needs) (λ c κs. search needs) (λ c κs. search needs) (λ c κs. search needs) (λ c κs. search needs) (λ c. search needs) returns)
+cell-valid-spec = tie.close (tie.spec (λ c κs. tt) (λ c. search needs) (λ c κs. tt) (λ c κs. tt) (λ c κs. tt) (λ c κs. tt) (λ c κs. tt) (λ c κs. tt) (λ c κs. tt) (λ c. search needs) returns)

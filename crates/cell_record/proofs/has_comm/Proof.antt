@@ -40,4 +40,4 @@ returns c =
     l .inv .1 ∙ ap (λ (k : ℕ). any comm (regionsOf 56 k (now (a .s)))) (end ∙ n .ensures) ∙ ap (any comm) (sym (record-regions (now (a .s))))
 
 pub has-comm-spec : {M : Type 1} → statement M
-has-comm-spec = tie.close (tie.spec Inv-loop μ-loop (λ c κs. search needs) loop-holds (λ c κs. search needs) (λ c κs. search needs) (λ c. search needs) (λ c. search needs) loop-again returns)
+has-comm-spec = tie.close (tie.spec Inv-loop μ-loop (λ c κs. tt) loop-holds (λ c κs. tt) (λ c κs. tt) (λ c. search needs) (λ c. search needs) loop-again returns)

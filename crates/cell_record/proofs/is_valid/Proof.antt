@@ -1,7 +1,6 @@
 -- `cell_record::is_valid` meets its contract: by whether the record has its form. Assumes nothing.
 use mathlib.Core.Path.{_∙_}
 use Rattle.cell_record.proofs.Laws.{unformed, formed}
-use borrow.Author.Needs.{needs}
 use Rattle.cell_record.proofs.is_valid.Statement.{statement}
 use Rattle.cell_record.proofs.is_valid.Tie as tie
 
@@ -12,4 +11,4 @@ returns-2 : tie.Need-returns-2
 returns-2 c = c .cell-valid .ensures ∙ formed _ _ _ (c .before .before .cell-form .ensures) (c .before .if1 .left)
 
 pub is-valid-spec : {M : Type 1} → statement M
-is-valid-spec = tie.close (tie.spec (λ c κs. search needs) returns (λ c κs. search needs) returns-2)
+is-valid-spec = tie.close (tie.spec (λ c κs. tt) returns (λ c κs. tt) returns-2)

@@ -4,7 +4,6 @@ use mathlib.Core.Path.{_∙_}
 use mir.Syntax.{w32}
 use mir.Facts.{toZ-ofZ}
 use Rattle.cell_record.specs.CellRecord.{readCell}
-use borrow.Author.Needs.{needs}
 use Rattle.cell_record.proofs.read_cell.Statement.{statement}
 use Rattle.cell_record.proofs.read_cell.Tie as tie
 
@@ -15,4 +14,4 @@ returns c =
     λ i. record { code = code i; config = c .before .cell-of .ensures i }
 
 pub read-cell-spec : {M : Type 1} → statement M
-read-cell-spec = tie.close (tie.spec (λ c κs. search needs) (λ c κs. search needs) returns)
+read-cell-spec = tie.close (tie.spec (λ c κs. tt) (λ c κs. tt) returns)

@@ -9,4 +9,4 @@ unfolding regionAt
 returns c = c .region-at .ensures
 
 pub region-spec : {M : Type 1} → statement M
-region-spec = tie.close (tie.spec (λ c. search needs) (λ c. search needs) (λ c κs. search needs) returns)
+region-spec = tie.close (tie.spec (λ c. search needs) (λ c. search needs) (λ c κs. tt) returns)

@@ -11,4 +11,4 @@ returns-2 : tie.Need-returns-2
 returns-2 c = omega arith
 
 pub region-count-spec : {M : Type 1} → statement M
-region-count-spec = tie.close (tie.spec (λ c κs. search needs) (λ c. search needs) (λ c. search needs) returns returns-2)
+region-count-spec = tie.close (tie.spec (λ c κs. tt) (λ c. search needs) (λ c. search needs) returns returns-2)

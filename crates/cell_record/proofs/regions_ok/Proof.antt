@@ -40,4 +40,4 @@ returns c =
     l .inv .1 ∙ ap (λ (k : ℕ). all (cellRegionOk (a .boot)) (regionsOf 56 k (now (a .s)))) (end ∙ n .ensures) ∙ ap (all (cellRegionOk (a .boot))) (sym (record-regions (now (a .s))))
 
 pub regions-ok-spec : {M : Type 1} → statement M
-regions-ok-spec = tie.close (tie.spec Inv-loop μ-loop (λ c κs. search needs) loop-holds (λ c κs. search needs) (λ c κs. search needs) (λ c. search needs) (λ c. search needs) loop-again returns)
+regions-ok-spec = tie.close (tie.spec Inv-loop μ-loop (λ c κs. tt) loop-holds (λ c κs. tt) (λ c κs. tt) (λ c. search needs) (λ c. search needs) loop-again returns)
