@@ -194,11 +194,11 @@ pub fn refusal(
     if locked {
         return EPERM;
     }
-    if cell_record::MAX_LENGTH < record.len() {
+    if cell_rules::MAX_LENGTH < record.len() {
         return E2BIG;
     }
     let cpus = fields::u64_at(record, 40);
-    if !cell_record::is_valid(system, record) | !cpu_set::is_subset(cpus, system.cpus) {
+    if !cell_rules::is_valid(system, record) | !cpu_set::is_subset(cpus, system.cpus) {
         return EINVAL;
     }
     let root = system.name;

@@ -6,7 +6,7 @@
 ghost use Prim.Native.Nat.{_-_, _<_, _^_};
 use crate::dice;
 use crate::dice::Dice;
-use cell_record::MAX_LENGTH;
+use cell_rules::MAX_LENGTH;
 use test_support::expand::put_hex;
 use test_support::names;
 use test_support::records;

@@ -120,7 +120,7 @@ fn cell_code(boot: Record, r: Record) -> i32 {
     let started = system_record::read_system(text::first(&a, boot.n));
     let config = started.config;
     let b = r.b;
-    let read = cell_record::read_cell(config, text::first(&b, r.n));
+    let read = cell_rules::read_cell(config, text::first(&b, r.n));
     read.code
 }
 

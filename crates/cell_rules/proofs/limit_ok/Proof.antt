@@ -1,11 +1,11 @@
--- `cell_record::limit_ok` meets its contract: it is the definition, with what its parts ensure. Assumes nothing.
+-- `cell_rules::limit_ok` meets its contract: it is the definition, with what its parts ensure. Assumes nothing.
 use mathlib.Core.Path.{ap, _∙_}
 use mathlib.Core.Bool.{_||_}
 use lib.Dec.{eqb}
 use Rattle.fields.specs.Fields.{zeros}
 use Rattle.cell_record.specs.CellRecord.{limitOk}
-use Rattle.cell_record.proofs.limit_ok.Statement.{statement}
-use Rattle.cell_record.proofs.limit_ok.Tie as tie
+use Rattle.cell_rules.proofs.limit_ok.Statement.{statement}
+use Rattle.cell_rules.proofs.limit_ok.Tie as tie
 
 returns : tie.Need-returns
 unfolding limitOk

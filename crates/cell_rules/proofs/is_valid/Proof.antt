@@ -1,8 +1,8 @@
--- `cell_record::is_valid` meets its contract: by whether the record has its form. Assumes nothing.
+-- `cell_rules::is_valid` meets its contract: by whether the record has its form. Assumes nothing.
 use mathlib.Core.Path.{_∙_}
-use Rattle.cell_record.proofs.Laws.{unformed, formed}
-use Rattle.cell_record.proofs.is_valid.Statement.{statement}
-use Rattle.cell_record.proofs.is_valid.Tie as tie
+use Rattle.cell_rules.proofs.Laws.{unformed, formed}
+use Rattle.cell_rules.proofs.is_valid.Statement.{statement}
+use Rattle.cell_rules.proofs.is_valid.Tie as tie
 
 returns : tie.Need-returns
 returns c = unformed _ _ _ (c .before .cell-form .ensures) (c .if1 .taken)

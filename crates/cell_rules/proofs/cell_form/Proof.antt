@@ -1,4 +1,4 @@
--- `cell_record::cell_form` meets its contract: it is the definition, with what its parts ensure. Assumes nothing.
+-- `cell_rules::cell_form` meets its contract: it is the definition, with what its parts ensure. Assumes nothing.
 use mathlib.Core.Path.{ap, _∙_}
 use mathlib.Core.Bool.{_&&_}
 use Prim.Native.Nat.{_+_, _*_}
@@ -7,10 +7,10 @@ use lib.ListN.{length}
 use denote.Ref.{now}
 use Rattle.fields.specs.Fields.{zeros}
 use Rattle.region_table.specs.Tables.{maxRegions}
 use Rattle.cell_record.specs.CellRecord.{cellForm}
 use borrow.Author.Needs.{needs}
-use Rattle.cell_record.proofs.cell_form.Statement.{statement}
-use Rattle.cell_record.proofs.cell_form.Tie as tie
+use Rattle.cell_rules.proofs.cell_form.Statement.{statement}
+use Rattle.cell_rules.proofs.cell_form.Tie as tie
 
 returns : tie.Need-returns
 unfolding cellForm

@@ -1,4 +1,4 @@
--- `cell_record::regions_ok` meets its contract. The loop's invariant: the flag says whether every region passed keeps the rules.
+-- `cell_rules::regions_ok` meets its contract. The loop's invariant: the flag says whether every region passed keeps the rules.
 -- Assumes nothing.
 use mathlib.Core.Path.{_≡_, sym, ap, _∙_}
 use Prim.Native.Nat.{ℕ, _≤_, _-_}
@@ -6,13 +6,13 @@ use native.Mathlib.Omega.{arith}
 use denote.Ref.{now}
 use Rattle.base.specs.Lists.{all}
 use Rattle.regions.specs.declared.MemRegion.{MemRegion}
 use Rattle.cell_record.specs.CellRecord.{cellRegionOk}
 use Rattle.region_table.specs.Tables.{regionsOf}
 use Rattle.region_table.proofs.Laws.{all-no-region, all-regions}
 use Rattle.cell_record.proofs.Laws.{record-regions}
 use borrow.Author.Needs.{needs}
-use Rattle.cell_record.proofs.regions_ok.Statement.{statement}
-use Rattle.cell_record.proofs.regions_ok.Tie as tie
+use Rattle.cell_rules.proofs.regions_ok.Statement.{statement}
+use Rattle.cell_rules.proofs.regions_ok.Tie as tie
 
 abbrev Inv-loop : tie.InvT-loop
 Inv-loop boot s n ok₀ i₀ ok i = (i ≤ n) × (ok ≡ all (cellRegionOk boot) (regionsOf 56 i s))

@@ -1,4 +1,4 @@
--- `cell_record::cell_valid` meets its contract: it is the definition, with what its parts ensure of the record's bytes. Assumes nothing.
+-- `cell_rules::cell_valid` meets its contract: it is the definition, with what its parts ensure of the record's bytes. Assumes nothing.
 use mathlib.Core.Path.{sym, ap, _∙_}
 use mathlib.Core.Bool.{Bool, not, _&&_, _||_}
 use Prim.Native.Nat.{ℕ, _%_}
@@ -9,11 +9,11 @@ use Rattle.fields.specs.Fields.{isName}
 use Rattle.cpu_set.specs.CpuSet.{isEmpty}
 use Rattle.regions.specs.Regions.{apart}
 use Rattle.region_table.specs.Tables.{regionsOf}
 use Rattle.cell_record.specs.CellRecord.{cellOf, cellValid}
 use Rattle.cell_record.proofs.Laws.{record-regions}
 use borrow.Author.Needs.{needs}
-use Rattle.cell_record.proofs.cell_valid.Statement.{statement}
-use Rattle.cell_record.proofs.cell_valid.Tie as tie
+use Rattle.cell_rules.proofs.cell_valid.Statement.{statement}
+use Rattle.cell_rules.proofs.cell_valid.Tie as tie
 
 returns : tie.Need-returns
 unfolding cellValid cellOf

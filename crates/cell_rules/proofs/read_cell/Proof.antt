@@ -1,11 +1,11 @@
--- `cell_record::read_cell` meets its contract: its two fields are what its two parts ensure. The code goes into the struct as
+-- `cell_rules::read_cell` meets its contract: its two fields are what its two parts ensure. The code goes into the struct as
 -- bits, and the number of those bits is the code again. Assumes nothing.
 use mathlib.Core.Path.{_∙_}
 use mir.Syntax.{w32}
 use mir.Facts.{toZ-ofZ}
 use Rattle.cell_record.specs.CellRecord.{readCell}
-use Rattle.cell_record.proofs.read_cell.Statement.{statement}
-use Rattle.cell_record.proofs.read_cell.Tie as tie
+use Rattle.cell_rules.proofs.read_cell.Statement.{statement}
+use Rattle.cell_rules.proofs.read_cell.Tie as tie
 
 returns : tie.Need-returns
 unfolding readCell

@@ -1,11 +1,11 @@
--- `cell_record::cell_answer` meets its contract: each test is a rule of the record's table, in its order. Assumes nothing.
+-- `cell_rules::cell_answer` meets its contract: each test is a rule of the record's table, in its order. Assumes nothing.
 use mathlib.Core.Path.{sym, ap, _∙_}
 use mathlib.Core.Bool.{not}
 use borrow.Author.Tests.{lt-ltb, le-ltb}
 use Rattle.base.proofs.Rules.{rule-holds, rule-passed, no-rule}
 use Rattle.cell_record.specs.CellRecord.{cellAnswer}
-use Rattle.cell_record.proofs.cell_answer.Statement.{statement}
-use Rattle.cell_record.proofs.cell_answer.Tie as tie
+use Rattle.cell_rules.proofs.cell_answer.Statement.{statement}
+use Rattle.cell_rules.proofs.cell_answer.Tie as tie
 
 returns : tie.Need-returns
 unfolding cellAnswer

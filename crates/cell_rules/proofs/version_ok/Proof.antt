@@ -1,11 +1,11 @@
--- `cell_record::version_ok` meets its contract: it is the definition, with what the reader ensures. Assumes nothing.
+-- `cell_rules::version_ok` meets its contract: it is the definition, with what the reader ensures. Assumes nothing.
 use mathlib.Core.Path.{ap}
 use mathlib.Core.Bool.{_||_}
 use Prim.Native.Nat.{ℕ}
 use lib.Dec.{eqb}
 use Rattle.cell_record.specs.CellRecord.{versionOk}
-use Rattle.cell_record.proofs.version_ok.Statement.{statement}
-use Rattle.cell_record.proofs.version_ok.Tie as tie
+use Rattle.cell_rules.proofs.version_ok.Statement.{statement}
+use Rattle.cell_rules.proofs.version_ok.Tie as tie
 
 returns : tie.Need-returns
 unfolding versionOk

@@ -1,7 +1,7 @@
--- `cell_record::region_rules` meets its contract: by whether the region has to lie in a boot region. Assumes nothing.
-use Rattle.cell_record.proofs.Laws.{region-free, region-tied}
-use Rattle.cell_record.proofs.region_rules.Statement.{statement}
-use Rattle.cell_record.proofs.region_rules.Tie as tie
+-- `cell_rules::region_rules` meets its contract: by whether the region has to lie in a boot region. Assumes nothing.
+use Rattle.cell_rules.proofs.Laws.{region-free, region-tied}
+use Rattle.cell_rules.proofs.region_rules.Statement.{statement}
+use Rattle.cell_rules.proofs.region_rules.Tie as tie
 
 returns : tie.Need-returns
 returns c =
