@@ -24,8 +24,8 @@ use Rattle.rules.specs.Create.{someCellLocked, tooLong, invalid, nameInUse, bus
 use Rattle.rules.specs.Effects.{poolCost}
 use Rattle.rules.specs.Asking.{ask}
 use Rattle.rules.specs.Calls.{createCall, ends}
-use Rattle.create_rules.specs.declared.Found.{Found}
-use Rattle.create_rules.specs.Looks.{foundLive}
+use Rattle.live_cells.specs.declared.Found.{Found}
+use Rattle.live_cells.specs.Looks.{foundLive}
 use Rattle.create_rules.specs.Rows.{useCode, createCode}
 
 pub no-pages : (pages used count : ℕ) → pages < used + 2 → true ≡ ltb pages (used + poolCost count)
@@ -164,28 +164,3 @@ module _ (caller : ℕ) (bytes : List ℕ) (m : Machine) where
 
     pub code-refuses : (ofZ w32 code ≡ 0 → ⊥) → createCall caller bytes m ≡ ends code m
     code-refuses n = carried-call ∙ ending n asked
-
--- ---- pairs of two lists
-
-module _ {A B : Type 0} (p : A → B → Bool) where
-  none-of : (xs : List A) → any (λ x. any (p x) []) xs ≡ false
-  unfolding any
-  none-of [] = refl
-  none-of (x ∷ xs) = none-of xs
-
-  one-more : (y : B) (ys : List B) (xs : List A) → any (λ x. any (p x) (y ∷ ys)) xs ≡ (any (λ x. p x y) xs || any (λ x. any (p x) ys) xs)
-  unfolding any
-  one-more y ys [] = refl
-  one-more y ys (x ∷ xs) = ap (λ (b : Bool). (p x y || any (p x) ys) || b) (one-more y ys xs) ∙ shuffle (p x y) (any (p x) ys) _ _
-    where
-      shuffle : (a b c d : Bool) → ((a || b) || (c || d)) ≡ ((a || c) || (b || d))
-      shuffle true b c d = refl
-      shuffle false true true d = refl
-      shuffle false true false d = refl
-      shuffle false false c d = refl
-
-  -- some pair passes, whichever list is looked at first
-  pub any-exchange : (xs : List A) (ys : List B) → any (λ y. any (λ x. p x y) xs) ys ≡ any (λ x. any (p x) ys) xs
-  unfolding any
-  any-exchange xs [] = sym (none-of xs)
-  any-exchange xs (y ∷ ys) = ap (λ (b : Bool). any (λ x. p x y) xs || b) (any-exchange xs ys) ∙ sym (one-more y ys xs)

@@ -20,8 +20,8 @@ use Rattle.rules.specs.Calls.{cellCreate, cellDestroy}
 use Rattle.comms.specs.declared.CellSets.{CellSets}
 use Rattle.comms.specs.Comms.{Index, cellIndex}
 use Rattle.comms.specs.Sets.{hasLocked, Sets}
-use Rattle.create_rules.specs.declared.Found.{Found}
-use Rattle.create_rules.specs.Looks.{asksCreate, foundLive}
+use Rattle.live_cells.specs.declared.Found.{Found}
+use Rattle.live_cells.specs.Looks.{asksCreate, foundLive}
 use Rattle.unobeyed.specs.Admission.{cpuFor, askedFor, cellFor}
 use Rattle.scans.specs.Scan.{scanOf, Scans}
 use Rattle.decide.specs.Decide.{eventLooks, AllParts}

@@ -27,7 +27,7 @@ pub fn step(m: Machine, e: Event, record: &[u8]) -> Stepped
     let look = decide::looks(e, w, waiting);
     let messageable = comms::messageable(look, m.live_ids, comms);
     let locked = comms::locked(look, m.live_ids, comms);
-    let found = create_rules::look_through(e, m.live_ids, cells, record);
+    let found = live_cells::look_through(e, m.live_ids, cells, record);
     let scan = scans::scan(
         system,
         m.pool_used,

@@ -20,8 +20,8 @@ use Rattle.cpu_table.specs.declared.CpuChange.{CpuChange}
 use Rattle.comms.specs.declared.WordsChange.{WordsChange}
 use Rattle.comms.specs.Comms.{wordsAt}
 use Rattle.asking.specs.declared.Effect.{Effect}
-use Rattle.create_rules.specs.declared.Found.{Found}
-use Rattle.create_rules.specs.Looks.{toLookAt, Looking}
+use Rattle.live_cells.specs.declared.Found.{Found}
+use Rattle.live_cells.specs.Looks.{toLookAt, Looking}
 use Rattle.effects.specs.declared.CellChange.{CellChange}
 use Rattle.effects.specs.declared.CellChange.the-variants as CellChange
 use Rattle.effects.specs.Parts.{changedCell}

@@ -36,9 +36,9 @@ use Rattle.asking.specs.declared.Effect.the-variants.{NoEffect}
 use Rattle.asking.specs.Moves.{effectOf, moved, cutOffAt}
 use Rattle.decide.specs.declared.Decision.{Decision}
 use Rattle.decide.specs.Decide.{settled}
-use Rattle.create_rules.specs.declared.Found.{Found}
-use Rattle.create_rules.specs.Looks.{nothingFound, toLookAt, Looking}
-use Rattle.create_rules.proofs.Looks.{look-start}
+use Rattle.live_cells.specs.declared.Found.{Found}
+use Rattle.live_cells.specs.Looks.{nothingFound, toLookAt, Looking}
+use Rattle.live_cells.proofs.Looks.{look-start}
 use Rattle.effects.specs.declared.CellChange.{CellChange}
 use Rattle.effects.specs.declared.CellChange.the-variants as CellChange
 use Rattle.effects.specs.declared.Figures.{Figures}

@@ -167,7 +167,7 @@ pub fn run(kept: Replay, log: &[u8], out: &mut [u8]) -> Ran
     let mut n = 0;
     let mut event = Event::Malformed;
     let mut left = 0;
-    let mut found = create_rules::nothing_found();
+    let mut found = live_cells::nothing_found();
     let mut set = 0;
     let mut how = CpuChange::Keep;
     let mut cut = MAX_CELLS;
@@ -190,15 +190,15 @@ pub fn run(kept: Replay, log: &[u8], out: &mut [u8]) -> Ran
                     n = read.len;
                     let read_event = read.event;
                     event = read_event;
-                    left = create_rules::to_look_at(event, live_ids);
-                    found = create_rules::nothing_found();
+                    left = live_cells::to_look_at(event, live_ids);
+                    found = live_cells::nothing_found();
                     progress = to_decide(left);
                 }
             }
             Progress::Looking => {
                 let i = id_set::lowest(left);
                 let c = cells[i];
-                found = create_rules::look(found, c, &record[0..n]);
+                found = live_cells::look(found, c, &record[0..n]);
                 left = id_set::drop_id(left, i);
                 progress = to_decide(left);
             }

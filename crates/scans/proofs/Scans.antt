@@ -22,8 +22,8 @@ use Rattle.cpu_table.specs.CpuTable.{cpuIndex}
 use Rattle.comms.specs.Comms.{Index, cellIndex}
 use Rattle.comms.proofs.Laws.{cell-inside}
 use Rattle.unobeyed.specs.Admission.{cpuFor, cellFor}
-use Rattle.create_rules.specs.declared.Found.{Found}
-use Rattle.create_rules.specs.Looks.{asksCreate}
+use Rattle.live_cells.specs.declared.Found.{Found}
+use Rattle.live_cells.specs.Looks.{asksCreate}
 use Rattle.create_rules.specs.Rows.{createCode}
 use Rattle.scans.specs.Scan.{cellFails, scanOf, Scans}
 

@@ -19,8 +19,8 @@ use Rattle.rules.specs.Calls.{cellCreate}
 use Rattle.cpu_table.specs.CpuTable.{cpuIndex}
 use Rattle.comms.specs.Comms.{cellIndex}
 use Rattle.unobeyed.specs.Admission.{cpuFor, cellFor}
-use Rattle.create_rules.specs.declared.Found.{Found}
-use Rattle.create_rules.specs.Looks.{foundLive, asksCreate}
+use Rattle.live_cells.specs.declared.Found.{Found}
+use Rattle.live_cells.specs.Looks.{foundLive, asksCreate}
 use Rattle.create_rules.specs.Rows.{createCode}
 
 -- once CPU `cpu` has failed, the state of its cell becomes failed

@@ -9,7 +9,7 @@ ghost use Rattle.machine_state.specs.Machine.{cpuIn, maxCells};
 ghost use Rattle.rules.specs.State.{rootId, isFinal};
 ghost use Rattle.rules.specs.Effects.{failCpu, allFailed};
 ghost use Rattle.scans.specs.Scan.{scanOf, Scans};
-use create_rules::Found;
+use live_cells::Found;
 use machine_state::CELL_CREATE;
 use machine_state::Cpu;
 use machine_state::Event;

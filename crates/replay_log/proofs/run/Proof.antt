@@ -19,7 +19,7 @@ use Rattle.machine_state.specs.declared.Cpu.{Cpu}
 use Rattle.machine_state.specs.declared.Waiting.{Waiting}
 use Rattle.machine_state.specs.declared.Machine.{Machine}
 use Rattle.rules.specs.State.{withPower, withWaiting, withCpus, withCell, withComm}
-use Rattle.create_rules.proofs.Looks.{look-turn, look-less, look-end}
+use Rattle.live_cells.proofs.Looks.{look-turn, look-less, look-end}
 use Rattle.cpu_table.proofs.Walk.{walk-less}
 use Rattle.asking.specs.declared.Effect.{Effect}
 use Rattle.asking.specs.declared.Effect.the-variants.{NoEffect}

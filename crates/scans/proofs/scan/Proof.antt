@@ -6,7 +6,7 @@ use mir.Facts.{toZ-ofZ}
 use Rattle.rules.specs.State.{withCpus, active}
 use Rattle.rules.specs.Create.{otherCellLocked, regionInUse}
 use Rattle.rules.specs.Effects.{counted, callCounter}
-use Rattle.create_rules.specs.Looks.{foundLive}
+use Rattle.live_cells.specs.Looks.{foundLive}
 use Rattle.scans.specs.Scan.{scanOf}
 use Rattle.scans.proofs.Scans.{scan-at, create-asked, scan-create, scan-other, scan-fails, scan-holds, fault-found}
 use borrow.Author.Needs.{needs}

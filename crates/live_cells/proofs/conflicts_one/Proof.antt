@@ -1,4 +1,4 @@
--- `create_rules::conflicts_one` meets its contract. The loop's invariant: the flag says whether a region passed is in conflict with s. The array has
+-- `live_cells::conflicts_one` meets its contract. The loop's invariant: the flag says whether a region passed is in conflict with s. The array has
 -- as many elements as places, so the loop passes those that the count names. Assumes nothing.
 use mathlib.Core.Path.{_≡_, ap, _∙_}
 use mathlib.Core.Bool.{Bool}
@@ -11,8 +11,8 @@ use Rattle.regions.specs.declared.MemRegion.{MemRegion}
 use Rattle.region_table.specs.Tables.{maxRegions}
 use Rattle.rules.specs.Create.{conflict}
 use borrow.Author.Needs.{needs}
-use Rattle.create_rules.proofs.conflicts_one.Statement.{statement}
-use Rattle.create_rules.proofs.conflicts_one.Tie as tie
+use Rattle.live_cells.proofs.conflicts_one.Statement.{statement}
+use Rattle.live_cells.proofs.conflicts_one.Tie as tie
 
 abbrev meeting : MemRegion → MemRegion → Bool
 meeting s r = conflict r s

@@ -1,4 +1,4 @@
--- `create_rules::meets` meets its contract. The loop's invariant: the flag says whether a region of the record that was passed is in conflict with
+-- `live_cells::meets` meets its contract. The loop's invariant: the flag says whether a region of the record that was passed is in conflict with
 -- one of the cell's. Whichever of the two is looked at first, the same pairs are. Assumes nothing.
 use mathlib.Core.Path.{_≡_, sym, ap, _∙_}
 use mathlib.Core.Bool.{Bool}
@@ -14,10 +14,10 @@ use Rattle.region_table.proofs.Laws.{any-no-region, any-regions}
 use Rattle.cell_record.specs.CellRecord.{cellOf, cellRegions}
 use Rattle.cell_record.proofs.Laws.{record-regions}
 use Rattle.rules.specs.Create.{conflict, conflicts}
-use Rattle.create_rules.proofs.Laws.{any-exchange}
+use Rattle.live_cells.proofs.Pairs.{any-exchange}
 use borrow.Author.Needs.{needs}
-use Rattle.create_rules.proofs.meets.Statement.{statement}
-use Rattle.create_rules.proofs.meets.Tie as tie
+use Rattle.live_cells.proofs.meets.Statement.{statement}
+use Rattle.live_cells.proofs.meets.Tie as tie
 
 abbrev met-by : List MemRegion → MemRegion → Bool
 met-by rs s = any (λ r. conflict r s) rs

@@ -17,7 +17,7 @@ use Rattle.rules.specs.State.{rootId, cellAt, cellIds, hasId, live}
 use Rattle.rules.specs.Create.{conflicts, regionInUse}
 use Rattle.rules.specs.Effects.{dropId}
 use Rattle.rules.specs.Calls.{cellCreate}
-use Rattle.create_rules.specs.declared.Found.{Found}
+use Rattle.live_cells.specs.declared.Found.{Found}
 
 -- a cell has the record's name; one of its regions is in conflict with one of the record's
 abbrev pub hasName : List ℕ → Cell → Bool

@@ -1,8 +1,8 @@
--- `create_rules::to_look_at` meets its contract: by whether the event is a Create. Assumes nothing.
+-- `live_cells::to_look_at` meets its contract: by whether the event is a Create. Assumes nothing.
 use mathlib.Core.Path.{sym, _∙_}
-use Rattle.create_rules.specs.Looks.{toLookAt}
-use Rattle.create_rules.proofs.to_look_at.Statement.{statement}
-use Rattle.create_rules.proofs.to_look_at.Tie as tie
+use Rattle.live_cells.specs.Looks.{toLookAt}
+use Rattle.live_cells.proofs.to_look_at.Statement.{statement}
+use Rattle.live_cells.proofs.to_look_at.Tie as tie
 
 returns : tie.Need-returns
 unfolding toLookAt

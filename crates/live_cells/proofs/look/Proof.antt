@@ -1,9 +1,9 @@
--- `create_rules::look` meets its contract: it is the definition, with what its parts ensure. Assumes nothing.
+-- `live_cells::look` meets its contract: it is the definition, with what its parts ensure. Assumes nothing.
 use mathlib.Core.Path.{ap}
 use mathlib.Core.Bool.{Bool, _||_}
-use Rattle.create_rules.specs.Looks.{together, lookedAt}
-use Rattle.create_rules.proofs.look.Statement.{statement}
-use Rattle.create_rules.proofs.look.Tie as tie
+use Rattle.live_cells.specs.Looks.{together, lookedAt}
+use Rattle.live_cells.proofs.look.Statement.{statement}
+use Rattle.live_cells.proofs.look.Tie as tie
 
 returns : tie.Need-returns
 unfolding together lookedAt

@@ -1,8 +1,8 @@
--- `create_rules::has_name` meets its contract: it compares the two names. Assumes nothing.
+-- `live_cells::has_name` meets its contract: it compares the two names. Assumes nothing.
 use mathlib.Core.Path.{ap, _∙_}
 use Rattle.base.specs.Lists.{same}
-use Rattle.create_rules.proofs.has_name.Statement.{statement}
-use Rattle.create_rules.proofs.has_name.Tie as tie
+use Rattle.live_cells.proofs.has_name.Statement.{statement}
+use Rattle.live_cells.proofs.has_name.Tie as tie
 
 returns : tie.Need-returns
 returns c = c .same-name .ensures ∙ ap (same _) (c .before .before .name .ensures)

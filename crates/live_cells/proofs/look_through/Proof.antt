@@ -1,4 +1,4 @@
--- `create_rules::look_through` meets its contract: the loop takes one ID after another out of those to look at. Assumes nothing.
+-- `live_cells::look_through` meets its contract: the loop takes one ID after another out of those to look at. Assumes nothing.
 use mathlib.Core.Path.{_≡_, sym, ap, _∙_}
 use mathlib.Core.List.{List}
 use native.Mathlib.Omega.{arith}
@@ -6,10 +6,10 @@ use Rattle.machine_state.specs.declared.Cell.{Cell}
 use Rattle.machine_state.specs.declared.Machine.{Machine}
 use Rattle.machine_state.specs.Machine.{cellIn}
 use Rattle.id_set.specs.Ids.{idCount}
-use Rattle.create_rules.specs.Looks.{Looking, toLookAt}
-use Rattle.create_rules.proofs.Looks.{look-start, look-turn, look-less, look-end}
-use Rattle.create_rules.proofs.look_through.Statement.{statement}
-use Rattle.create_rules.proofs.look_through.Tie as tie
+use Rattle.live_cells.specs.Looks.{Looking, toLookAt}
+use Rattle.live_cells.proofs.Looks.{look-start, look-turn, look-less, look-end}
+use Rattle.live_cells.proofs.look_through.Statement.{statement}
+use Rattle.live_cells.proofs.look_through.Tie as tie
 
 abbrev Inv-loop : tie.InvT-loop
 Inv-loop used bytes cells found₀ left₀ found left = (m : Machine) → m .cells ≡ cells → Looking bytes m left₀ found left

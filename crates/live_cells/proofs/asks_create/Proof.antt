@@ -1,10 +1,10 @@
--- `create_rules::asks_create` meets its contract: each arm is its case of the definition. Assumes nothing.
+-- `live_cells::asks_create` meets its contract: each arm is its case of the definition. Assumes nothing.
 use mathlib.Core.Path.{_≡_, sym, ap}
 use Rattle.machine_state.specs.declared.Event.{Event}
-use Rattle.create_rules.specs.Looks.{asksCreate}
+use Rattle.live_cells.specs.Looks.{asksCreate}
 use borrow.Author.Needs.{needs}
-use Rattle.create_rules.proofs.asks_create.Statement.{statement}
-use Rattle.create_rules.proofs.asks_create.Tie as tie
+use Rattle.live_cells.proofs.asks_create.Statement.{statement}
+use Rattle.live_cells.proofs.asks_create.Tie as tie
 
 abbrev case : {e known : Event} → e ≡ known → asksCreate known ≡ asksCreate e
 case q = sym (ap asksCreate q)

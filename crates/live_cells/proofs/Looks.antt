@@ -19,8 +19,8 @@ use Rattle.rules.specs.Create.{regionInUse}
 use Rattle.rules.specs.Effects.{dropId}
 use Rattle.id_set.specs.Ids.{Lowest, idCount}
 use Rattle.id_set.proofs.Ids.{has-bit, has-dropped, drop-less}
-use Rattle.create_rules.specs.declared.Found.{Found}
-use Rattle.create_rules.specs.Looks.{hasName, meetsRecord, nothingFound, together, lookedAt, someOf, foundIn, foundLive, asksCreate, toLookAt, Looking}
+use Rattle.live_cells.specs.declared.Found.{Found}
+use Rattle.live_cells.specs.Looks.{hasName, meetsRecord, nothingFound, together, lookedAt, someOf, foundIn, foundLive, asksCreate, toLookAt, Looking}
 
 -- ---- some number of a row passes a test
 

@@ -1,9 +1,9 @@
--- `create_rules::conflict` meets its contract: it is the definition, with what its parts ensure. Assumes nothing.
+-- `live_cells::conflict` meets its contract: it is the definition, with what its parts ensure. Assumes nothing.
 use mathlib.Core.Bool.{not, _&&_}
 use Rattle.regions.specs.Regions.{overlapPhys}
 use Rattle.rules.specs.Create.{conflict}
-use Rattle.create_rules.proofs.conflict.Statement.{statement}
-use Rattle.create_rules.proofs.conflict.Tie as tie
+use Rattle.live_cells.proofs.conflict.Statement.{statement}
+use Rattle.live_cells.proofs.conflict.Tie as tie
 
 returns : tie.Need-returns
 unfolding conflict overlapPhys
