@@ -9,7 +9,7 @@ use lib.Dec.{ltb, eqb}
 use lib.IntN.{ℤ, pos, negsuc}
 use mir.Syntax.{w32}
 use mir.Val.{ofZ}
-use Rattle.base.specs.Lists.{any, same}
+use Rattle.base.specs.Lists.{same}
 use Rattle.base.proofs.Tests.{equal-leb, holds, fails}
 use mathlib.Core.List.{List, [], _∷_, map}
 use Rattle.base.specs.Rules.{Refusal, firstRule, _⇒_, EPERM, E2BIG, ENOMEM, EBUSY, EEXIST, EINVAL}
