@@ -45,8 +45,7 @@ pub fn remark(line: &[u8]) {
 pub fn unread(t: Tally, line: &[u8], why: &[u8]) -> Tally {
     io::write_all(1, line);
     io::write_all(1, b"   ERROR: ");
-    io::write_all(1, why);
-    io::write_all(1, b"\n");
+    remark(why);
     counted(t, false)
 }
 
@@ -65,13 +64,19 @@ pub fn answered(t: Tally, line: &[u8], answer: &[u8]) -> Tally {
     let right = check::same(answer, wanted(line));
     io::write_all(1, asked(line));
     io::write_all(1, b" > ");
-    io::write_all(1, answer);
-    if !right {
-        io::write_all(1, b"   WRONG, expected ");
-        io::write_all(1, wanted(line));
+    if right {
+        remark(answer);
+    } else {
+        wrong(answer, wanted(line));
     }
-    io::write_all(1, b"\n");
     counted(t, right)
+}
+
+// Prints an answer that is not the one that is wanted.
+fn wrong(answer: &[u8], wanted: &[u8]) {
+    io::write_all(1, answer);
+    io::write_all(1, b"   WRONG, expected ");
+    remark(wanted);
 }
 
 // Prints the count.

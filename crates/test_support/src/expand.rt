@@ -1,6 +1,7 @@
 // The bytes that a line of a script stands for: `@NAME` is the HEX of a record (names.rt), `\xNN`
-// one byte, and every other byte itself. A name is of lower-case letters, digits and `-`.
+// one byte, and every other byte itself. A name ends before a space or another `@`.
 use crate::names;
+use crate::records::Record;
 use crate::text;
 
 // How far a line has been read, how many bytes have been written, and whether all could be read.
@@ -29,49 +30,31 @@ pub fn put_hex(out: &mut [u8], n: usize, s: &[u8]) -> usize {
     end
 }
 
-fn is_name_byte(b: u8) -> bool {
-    match b {
-        b'a'..=b'z' => true,
-        b'0'..=b'9' => true,
-        b'-' => true,
-        _ => false,
-    }
-}
-
-// The name that a text begins with.
-pub fn name_of(s: &[u8]) -> &[u8] {
-    let mut i = 0;
-    while i < s.len() {
-        if !is_name_byte(s[i]) {
-            return text::first(s, i);
-        }
-        i += 1;
-    }
-    s
-}
-
 // Writes the HEX of a record.
-fn put_named(script: &[u8], name: &[u8], e: Expanded, out: &mut [u8]) -> Expanded {
+pub fn put_record(out: &mut [u8], n: usize, r: Record) -> usize {
+    let b = r.b;
+    put_hex(out, n, text::first(&b, r.n))
+}
+
+// Writes the HEX of the record that a text begins with the name of.
+fn put_named(script: &[u8], s: &[u8], e: Expanded, out: &mut [u8]) -> Expanded {
+    let name = text::before(text::before(s, b' '), b'@');
     let named = names::record_named(script, name);
     let r = named.record;
-    let b = r.b;
     Expanded {
         at: text::plus(text::plus(e.at, 1), name.len()),
-        n: put_hex(out, e.n, text::first(&b, r.n)),
+        n: put_record(out, e.n, r),
         ok: e.ok & named.ok,
     }
 }
 
 // Writes the byte of `\xNN`.
 fn put_escaped(s: &[u8], e: Expanded, out: &mut [u8]) -> Expanded {
-    let high = text::digit(text::byte(s, 2));
-    let low = text::digit(text::byte(s, 3));
-    let known = (text::byte(s, 1) == b'x') & (high < 16) & (low < 16);
-    let value = (high % 16 * 16 + low % 16) as u8;
+    let d = text::digits(text::first(text::rest(s, 2), 2), true);
     Expanded {
         at: text::plus(e.at, 4),
-        n: text::put(out, e.n, value),
-        ok: e.ok & known,
+        n: text::put(out, e.n, (d.value % 0x100) as u8),
+        ok: e.ok & d.ok & (3 < s.len()) & (text::byte(s, 1) == b'x'),
     }
 }
 
@@ -79,7 +62,7 @@ fn put_escaped(s: &[u8], e: Expanded, out: &mut [u8]) -> Expanded {
 fn step(script: &[u8], line: &[u8], e: Expanded, out: &mut [u8]) -> Expanded {
     let s = text::rest(line, e.at);
     match text::byte(s, 0) {
-        b'@' => put_named(script, name_of(text::rest(s, 1)), e, out),
+        b'@' => put_named(script, text::rest(s, 1), e, out),
         b'\\' => put_escaped(s, e, out),
         b => Expanded {
             at: text::plus(e.at, 1),

@@ -1,16 +1,19 @@
-// Bytes to build a record in, as many as a line of a log can bring. Numbers are little-endian; what
-// would go past the end is left out.
-use lines::MAX_RECORD;
+// Bytes to build a record in: those of the longest cell record and some more, so that a record can
+// be too long. What would go past the end is left out.
+use region_table::MAX_REGIONS;
+
+// How many bytes a record has room for.
+pub const ROOM: usize = 152 + 32 * MAX_REGIONS;
 
 // A record under test: the first `n` of its bytes.
 pub struct Record {
-    pub b: [u8; MAX_RECORD],
+    pub b: [u8; ROOM],
     pub n: usize,
 }
 
 // A record of no bytes, and zeros behind it.
 pub fn empty() -> Record {
-    let b = [0; MAX_RECORD];
+    let b = [0; ROOM];
     Record { b, n: 0 }
 }
 
@@ -22,32 +25,8 @@ pub fn sized(r: Record, n: usize) -> Record {
 
 pub fn put8(r: Record, at: usize, v: u8) -> Record {
     let mut t = r;
-    if at < MAX_RECORD {
+    if at < ROOM {
         t.b[at] = v;
     }
     t
-}
-
-pub fn put16(r: Record, at: usize, v: u16) -> Record {
-    if MAX_RECORD <= at {
-        return r;
-    }
-    let t = put8(r, at, (v % 0x100) as u8);
-    put8(t, at + 1, (v / 0x100) as u8)
-}
-
-pub fn put32(r: Record, at: usize, v: u32) -> Record {
-    if MAX_RECORD <= at {
-        return r;
-    }
-    let t = put16(r, at, (v % 0x1_0000) as u16);
-    put16(t, at + 2, (v / 0x1_0000) as u16)
-}
-
-pub fn put64(r: Record, at: usize, v: u64) -> Record {
-    if MAX_RECORD <= at {
-        return r;
-    }
-    let t = put32(r, at, (v % 0x1_0000_0000) as u32);
-    put32(t, at + 4, (v / 0x1_0000_0000) as u32)
 }

@@ -23,15 +23,9 @@ pub fn byte(s: &[u8], at: usize) -> u8 {
     if at < s.len() { s[at] } else { 0 }
 }
 
-// A sum; the first of the two where either is past 2^32.
+// A sum, which goes round at 2^64.
 pub fn plus(a: usize, b: usize) -> usize {
-    if 0x1_0000_0000 < a {
-        return a;
-    }
-    if 0x1_0000_0000 < b {
-        return a;
-    }
-    a + b
+    std::num::wrapping_add_usize(a, b)
 }
 
 // Stores a byte behind the first `n` of `out`, if there is room, and gives how many there are.
@@ -73,10 +67,20 @@ pub fn find(s: &[u8], part: &[u8]) -> usize {
     i
 }
 
+// What stands before the first byte `b`, or all.
+pub fn before(s: &[u8], b: u8) -> &[u8] {
+    first(s, bytes::scan::find(s, 0, s.len(), b))
+}
+
 // The line that begins at a place, without its line feed.
 pub fn line_at(s: &[u8], at: usize) -> &[u8] {
-    let t = rest(s, at);
-    first(t, bytes::scan::find(t, 0, t.len(), b'\n'))
+    before(rest(s, at), b'\n')
+}
+
+// The place of the line behind the one at a place.
+pub fn next_line(s: &[u8], at: usize) -> usize {
+    let line = line_at(s, at);
+    plus(plus(at, line.len()), 1)
 }
 
 // A text without its last byte.
@@ -88,17 +92,13 @@ pub fn but_last(s: &[u8]) -> &[u8] {
     }
 }
 
-// The place of the first space, or the length.
-fn space(s: &[u8]) -> usize {
-    bytes::scan::find(s, 0, s.len(), b' ')
-}
-
 // The place where word `k` begins.
 fn word_at(s: &[u8], k: usize) -> usize {
     let mut at = 0;
     let mut left = k;
     while 0 < left {
-        at = plus(at, plus(space(rest(s, at)), 1));
+        let word = before(rest(s, at), b' ');
+        at = plus(plus(at, word.len()), 1);
         left -= 1;
     }
     at
@@ -111,8 +111,7 @@ pub fn from_word(s: &[u8], k: usize) -> &[u8] {
 
 // Word `k`; nothing where there are fewer.
 pub fn word(s: &[u8], k: usize) -> &[u8] {
-    let t = from_word(s, k);
-    first(t, space(t))
+    before(from_word(s, k), b' ')
 }
 
 // How many words a text has; of no bytes, none.
@@ -129,46 +128,45 @@ pub fn words_in(s: &[u8]) -> usize {
     plus(spaces, 1)
 }
 
-// What a digit stands for; 16 for another byte.
-pub fn digit(b: u8) -> u64 {
-    match b {
-        b'0'..=b'9' => (b - b'0') as u64,
-        b'a'..=b'f' => (b - b'a') as u64 + 10,
-        _ => 16,
+// The place of a word in a list of words, counted from 0; how many there are where it is not one.
+pub fn index_of(list: &[u8], w: &[u8]) -> usize {
+    let n = words_in(list);
+    let mut k = 0;
+    while k < n {
+        if check::same(word(list, k), w) {
+            return k;
+        }
+        k += 1;
     }
+    n
 }
 
-fn no_number() -> Number {
-    Number {
-        ok: false,
-        value: 0,
-    }
+// What a digit stands for; 16 for another byte.
+fn digit(b: u8) -> u64 {
+    bytes::scan::find(b"0123456789abcdef", 0, 16, b) as u64
 }
 
 // A number with one digit more, hexadecimal or decimal.
 fn with_digit(n: Number, hex: bool, b: u8) -> Number {
+    let v = n.value % 0x1000_0000_0000_0000;
     let d = digit(b);
-    let v = n.value;
-    if 0xfff_ffff_ffff_ffff < v {
-        return no_number();
-    }
-    if 15 < d {
-        return no_number();
-    }
+    let low = d % 16;
+    let ok = n.ok & (v == n.value);
     if hex {
-        return Number {
-            ok: n.ok,
-            value: 16 * v + d,
-        };
-    }
-    Number {
-        ok: n.ok & (d < 10),
-        value: 10 * v + d,
+        Number {
+            ok: ok & (d < 16),
+            value: 16 * v + low,
+        }
+    } else {
+        Number {
+            ok: ok & (d < 10),
+            value: 10 * v + low,
+        }
     }
 }
 
 // The number that digits make.
-fn digits(w: &[u8], hex: bool) -> Number {
+pub fn digits(w: &[u8], hex: bool) -> Number {
     let mut n = Number {
         ok: 0 < w.len(),
         value: 0,

@@ -8,25 +8,22 @@
 //   !             start the system: later cells are read in it
 //
 // N is a decimal number, or after 0x a hexadecimal one in lower case. Any other word is an error.
+// Numbers are little-endian.
+ghost use Prim.Native.Nat.{_≤_, _<_};
+ghost use lib.ListN.{length};
+use crate::records;
+use crate::records::ROOM;
 use crate::records::Record;
-use crate::records::put8;
-use crate::records::put16;
-use crate::records::put32;
-use crate::records::put64;
-use crate::records::sized;
-use lines::MAX_RECORD;
+use crate::text;
+use crate::text::Number;
 
-// What the words so far have made, and the word that is being read: its first byte, a space where
-// none has begun, and its number.
+// What the words so far have made, and the place where the next number or text goes.
 pub struct Words {
     pub record: Record,
     pub keep: bool,
     pub start: bool,
     pub ok: bool,
     at: usize,
-    word: u8,
-    hex: bool,
-    number: u64,
 }
 
 // The record that the words of `s` make of another.
@@ -34,10 +31,14 @@ pub fn build(record: Record, s: &[u8]) -> Words {
     let mut w = begin(record);
     let mut i = 0;
     while i < s.len() {
-        w = step(w, s[i]);
-        i += 1;
+        let end = word_end(s, i);
+        w = step(w, &s[i..end]);
+        if s.len() <= end {
+            return ended(w, s[i]);
+        }
+        i = end + 1;
     }
-    ended(w)
+    w
 }
 
 fn begin(record: Record) -> Words {
@@ -47,161 +48,94 @@ fn begin(record: Record) -> Words {
         start: false,
         ok: true,
         at: 0,
-        word: b' ',
-        hex: false,
-        number: 0,
     }
 }
 
-// One byte more.
-fn step(mut w: Words, b: u8) -> Words {
-    let k = w.word;
-    if k == b'"' {
-        return text(w, b);
-    }
-    if b == b' ' {
-        return ended(w);
-    }
-    if k == b' ' {
-        w.word = b;
-        return w;
-    }
-    if b == b'x' {
-        w.hex = true;
-        return w;
-    }
-    digit(w, b)
-}
-
-// One byte more of a text.
-fn text(w: Words, b: u8) -> Words {
-    if b == b'"' {
-        return between(w);
-    }
-    let r = w.record;
-    moved(w, put8(r, w.at, b), 1)
-}
-
-// One digit more of a number.
-fn digit(mut w: Words, b: u8) -> Words {
-    let n = w.number;
-    let d = value(b);
-    if 0xfff_ffff_ffff_ffff < n {
-        return wrong(w);
-    }
-    if w.hex {
-        if 15 < d {
-            return wrong(w);
-        }
-        w.number = 16 * n + d;
+// Where the word that begins at a place ends: at a space, or a text at its second quotation mark.
+fn word_end(s: &[u8], at: usize) -> usize
+    requires { ⌜ at < length (now s) ⌝ }
+    ensures { λ r. ⌜ (at ≤ r) × (r ≤ length (now (s .entry))) ⌝ }
+{
+    if s[at] == b'"' {
+        bytes::scan::find(s, at + 1, s.len(), b'"')
     } else {
-        if 9 < d {
-            return wrong(w);
-        }
-        w.number = 10 * n + d;
-    }
-    w
-}
-
-// What a digit stands for; 16 for another byte.
-fn value(b: u8) -> u64 {
-    match b {
-        b'0'..=b'9' => (b - b'0') as u64,
-        b'a'..=b'f' => (b - b'a') as u64 + 10,
-        _ => 16,
+        bytes::scan::find(s, at, s.len(), b' ')
     }
 }
 
-// The word's end: what it says is done.
-fn ended(w: Words) -> Words {
-    let k = w.word;
-    let done = match k {
-        b' ' => w,
-        b'@' => gone(w),
-        b'b' => put_u8(w),
-        b'w' => put_u16(w),
-        b'd' => put_u32(w),
-        b'q' => put_u64(w),
-        b'#' => resized(w),
-        b'=' => kept(w),
-        b'!' => started(w),
-        _ => wrong(w),
-    };
-    between(done)
-}
-
-fn between(mut w: Words) -> Words {
-    w.word = b' ';
-    w.hex = false;
-    w.number = 0;
+// The words of a line whose last one begins with `b`: a text that does not end is an error.
+fn ended(mut w: Words, b: u8) -> Words {
+    w.ok = w.ok & (b != b'"');
     w
 }
 
-fn wrong(mut w: Words) -> Words {
-    w.ok = false;
+// One word more.
+fn step(w: Words, word: &[u8]) -> Words {
+    let rest = text::rest(word, 1);
+    let n = text::number_of(rest);
+    match text::byte(word, 0) {
+        0 => w,
+        b'@' => gone(w, n),
+        b'b' => number(w, n, 1),
+        b'w' => number(w, n, 2),
+        b'd' => number(w, n, 4),
+        b'q' => number(w, n, 8),
+        b'"' => text(w, rest),
+        b'#' => resized(w, n),
+        k => marked(w, k),
+    }
+}
+
+// A word without a number: to keep, to start, or an error.
+fn marked(mut w: Words, k: u8) -> Words {
+    w.keep = w.keep | (k == b'=');
+    w.start = w.start | (k == b'!');
+    w.ok = w.ok & ((k == b'=') | (k == b'!'));
     w
 }
 
-fn kept(mut w: Words) -> Words {
-    w.keep = true;
+fn gone(mut w: Words, n: Number) -> Words {
+    w.at = n.value as usize;
+    w.ok = w.ok & n.ok;
     w
 }
 
-fn started(mut w: Words) -> Words {
-    w.start = true;
-    w
-}
-
-fn gone(mut w: Words) -> Words {
-    w.at = w.number as usize;
-    w
-}
-
-fn resized(mut w: Words) -> Words {
+fn resized(mut w: Words, n: Number) -> Words {
     let old = w.record;
-    let r = sized(old, w.number as usize);
+    let r = records::sized(old, n.value as usize);
     w.record = r;
+    w.ok = w.ok & n.ok;
     w
 }
 
-// With another record, and `n` bytes further on.
-fn moved(mut w: Words, r: Record, n: u8) -> Words {
-    let at = w.at;
-    if at < MAX_RECORD {
-        w.at = at + n as usize;
+// The bytes of a number, the lowest first: an error where it has more than `size`.
+fn number(w: Words, n: Number, size: usize) -> Words {
+    let r = w.record;
+    let mut b = r.b;
+    let mut at = w.at;
+    let mut left = n.value;
+    let mut i = 0;
+    while i < size {
+        at = text::put(&mut b, at, (left % 0x100) as u8);
+        left = left / 0x100;
+        i += 1;
     }
-    w.record = r;
+    moved(w, b, at, n.ok & (left == 0))
+}
+
+fn text(w: Words, s: &[u8]) -> Words {
+    let r = w.record;
+    let mut b = r.b;
+    let at = text::put_all(&mut b, w.at, s);
+    moved(w, b, at, true)
+}
+
+// With other bytes, and the next place behind them.
+fn moved(mut w: Words, b: [u8; ROOM], at: usize, ok: bool) -> Words {
+    let old = w.record;
+    let record = Record { b, n: old.n };
+    w.record = record;
+    w.at = at;
+    w.ok = w.ok & ok;
     w
-}
-
-fn put_u8(w: Words) -> Words {
-    let r = w.record;
-    let n = w.number;
-    if 0xff < n {
-        return wrong(w);
-    }
-    moved(w, put8(r, w.at, n as u8), 1)
-}
-
-fn put_u16(w: Words) -> Words {
-    let r = w.record;
-    let n = w.number;
-    if 0xffff < n {
-        return wrong(w);
-    }
-    moved(w, put16(r, w.at, n as u16), 2)
-}
-
-fn put_u32(w: Words) -> Words {
-    let r = w.record;
-    let n = w.number;
-    if 0xffff_ffff < n {
-        return wrong(w);
-    }
-    moved(w, put32(r, w.at, n as u32), 4)
-}
-
-fn put_u64(w: Words) -> Words {
-    let r = w.record;
-    moved(w, put64(r, w.at, w.number), 8)
 }
