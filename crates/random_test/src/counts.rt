@@ -1,26 +1,18 @@
 // How often each kind of answer came. The script's lines `answer ..` name the kinds in this order.
 use crate::lines_made::nth;
 use machine_state::Answer;
+use test_support::cases;
 
-const KINDS: usize = 23;
+pub(crate) const KINDS: usize = 23;
 
-pub struct Counts {
-    n: [u64; 23],
-}
+// The kind of an event that met the machine while it was off.
+pub(crate) const OFF: usize = 12;
 
-pub(crate) fn none() -> Counts {
-    Counts { n: [0; 23] }
-}
-
-fn more(c: Counts, kind: usize) -> Counts {
-    let mut next = c;
-    if kind < 23 {
-        let n = c.n[kind];
-        if n < 1_000_000 {
-            next.n[kind] = n + 1;
-        }
+// One more of a kind.
+pub(crate) fn count(counts: &mut [u64], kind: usize) {
+    if kind < counts.len() {
+        counts[kind] = std::num::wrapping_add_u64(counts[kind], 1);
     }
-    next
 }
 
 // The kind of a return code.
@@ -39,12 +31,12 @@ fn kind_of_code(code: i32) -> usize {
     }
 }
 
-fn kind_of(a: Answer) -> usize {
+pub(crate) fn kind_of(a: Answer) -> usize {
     match a {
         Answer::Code(code) => kind_of_code(code),
         Answer::Wait(_) => 10,
         Answer::Done => 11,
-        Answer::Off => 12,
+        Answer::Off => OFF,
         Answer::Bad => 13,
         Answer::Stopped => 14,
         Answer::Held => 15,
@@ -53,26 +45,14 @@ fn kind_of(a: Answer) -> usize {
     }
 }
 
-pub(crate) fn with_answer(c: Counts, a: Answer) -> Counts {
-    more(c, kind_of(a))
-}
-
-// With a boot's answer.
-pub(crate) fn with_boot(c: Counts, code: i32) -> Counts {
+// The kind of a boot's answer.
+pub(crate) fn kind_of_boot(code: i32) -> usize {
     match code {
-        0 => more(c, 18),
-        -22 => more(c, 19),
-        -34 => more(c, 20),
-        -12 => more(c, 21),
-        _ => more(c, 22),
-    }
-}
-
-// One more where an answer is `off`.
-pub(crate) fn with_off(n: u64, a: Answer) -> u64 {
-    match a {
-        Answer::Off => if n < 1000 { n + 1 } else { n },
-        _ => n,
+        0 => 18,
+        -22 => 19,
+        -34 => 20,
+        -12 => 21,
+        _ => 22,
     }
 }
 
@@ -82,15 +62,16 @@ fn print_kind(name: &[u8], n: u64, comes: bool) {
     io::write_all(1, b": ");
     io::print_decimal(1, n);
     if comes == (n == 0) {
-        io::write_all(1, b"   WRONG");
+        cases::remark(b"   WRONG");
+    } else {
+        cases::remark(b"");
     }
-    io::write_all(1, b"\n");
 }
 
-pub(crate) fn print(c: Counts, script: &[u8]) {
+pub(crate) fn print(counts: &[u64], script: &[u8]) {
     let mut kind = 0;
-    while kind < KINDS {
-        print_kind(nth(script, b"answer", kind as u64), c.n[kind], kind < 22);
+    while kind < counts.len() {
+        print_kind(nth(script, b"answer", kind as u64), counts[kind], kind < 22);
         kind += 1;
     }
 }

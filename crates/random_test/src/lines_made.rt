@@ -3,33 +3,30 @@
 // A template is a line `line WORDS`. Its word `$NAME` stands for one of the words of the script's
 // line `list NAME = ..`, `~NAME` for one of them that is a record and is damaged, `@NAME` for a
 // record in HEX, and every other word for itself.
-ghost use Prim.Native.Nat.{_-_, _<_, _^_};
 use crate::dice;
-use crate::dice::Dice;
 use cell_rules::MAX_LENGTH;
-use test_support::expand::put_hex;
+use lines::MAX_LINE;
+use test_support::expand;
 use test_support::names;
 use test_support::records;
 use test_support::records::Record;
 use test_support::text;
 
+// Room for a line with its line feed.
+pub(crate) const LOG: usize = MAX_LINE + 1;
+
 // A text that has been written: its length, and the dice after it.
 pub struct Made {
-    pub dice: Dice,
+    pub dice: u64,
     pub n: usize,
-}
-
-// The place of the line behind the one at `at`.
-fn next_line(s: &[u8], at: usize) -> usize {
-    let line = text::line_at(s, at);
-    text::plus(text::plus(at, line.len()), 1)
 }
 
 // Of the script's lines that begin with `word`, the `k`-th from 0, without that word.
 pub(crate) fn nth<'a, 'b>(script: &'a [u8], word: &'b [u8], k: u64) -> &'a [u8] {
     let mut left = k;
     let mut at = 0;
-    while at < script.len() {
+    let mut turns = script.len();
+    while 0 < turns {
         let line = text::line_at(script, at);
         if check::same(text::word(line, 0), word) {
             if left == 0 {
@@ -37,37 +34,28 @@ pub(crate) fn nth<'a, 'b>(script: &'a [u8], word: &'b [u8], k: u64) -> &'a [u8] 
             }
             left -= 1;
         }
-        at = after(at, next_line(script, at));
+        at = text::next_line(script, at);
+        turns -= 1;
     }
     text::first(script, 0)
 }
 
-// The words of the list NAME, which a line `list NAME = ..` has.
-fn list<'a, 'b>(script: &'a [u8], name: &'b [u8]) -> &'a [u8] {
-    let mut at = 0;
-    while at < script.len() {
-        let line = text::line_at(script, at);
-        if text::starts(line, b"list ") {
-            if check::same(text::word(line, 1), name) {
-                return text::from_word(line, 3);
-            }
+// How many templates a script has.
+pub(crate) fn templates(script: &[u8]) -> u64 {
+    let mut k = 0;
+    while k < 1000 {
+        let template = nth(script, b"line", k);
+        if template.len() == 0 {
+            return k;
         }
-        at = after(at, next_line(script, at));
+        k += 1;
     }
-    text::first(script, 0)
-}
-
-// A place behind `at`: the next line's, and never `at` itself.
-fn after(at: usize, next: usize) -> usize
-    requires { ⌜ at < 2 ^ 64 - 1 ⌝ }
-    ensures { λ r. ⌜ at < r ⌝ }
-{
-    if at < next { next } else { at + 1 }
+    k
 }
 
 // Word `k` of a list, counted round.
 pub(crate) fn of_list<'a, 'b>(script: &'a [u8], name: &'b [u8], k: usize) -> &'a [u8] {
-    let words = list(script, name);
+    let words = names::line_of(script, b"list", name);
     let n = text::words_in(words);
     if n == 0 {
         return words;
@@ -82,7 +70,7 @@ pub(crate) fn record_of(script: &[u8], word: &[u8]) -> Record {
 }
 
 // A record with another byte, another length, or far too long.
-fn damaged(d: Dice, r: Record) -> Record {
+fn damaged(d: u64, r: Record) -> Record {
     let a = dice::thrown(d);
     let b = dice::thrown(a);
     match dice::below(d, 8) {
@@ -92,74 +80,39 @@ fn damaged(d: Dice, r: Record) -> Record {
     }
 }
 
-// Writes a word of a list, or of a template, behind the first `n` bytes.
-fn put_plain(script: &[u8], word: &[u8], out: &mut [u8], n: usize) -> usize {
-    if text::byte(word, 0) == b'@' {
-        let r = record_of(script, word);
-        let b = r.b;
-        return put_hex(out, n, text::first(&b, r.n));
-    }
-    text::put_all(out, n, word)
-}
-
-// Writes a word of a template.
-fn put_word(script: &[u8], word: &[u8], d: Dice, out: &mut [u8], n: usize) -> usize {
-    let name = text::rest(word, 1);
-    let picked = of_list(script, name, dice::below(d, 1000) as usize);
+// Writes a word of a template, a record by its name, behind the first `n` bytes.
+fn put_word(script: &[u8], word: &[u8], d: u64, out: &mut [u8], n: usize) -> usize {
+    let picked = of_list(script, text::rest(word, 1), dice::below(d, 1000) as usize);
     match text::byte(word, 0) {
-        b'$' => put_plain(script, picked, out, n),
-        b'~' => {
-            let r = damaged(dice::thrown(d), record_of(script, picked));
-            let b = r.b;
-            put_hex(out, n, text::first(&b, r.n))
-        }
-        _ => put_plain(script, word, out, n),
+        b'$' => text::put_all(out, n, picked),
+        b'~' => expand::put_record(out, n, damaged(dice::thrown(d), record_of(script, picked))),
+        _ => text::put_all(out, n, word),
     }
 }
 
-// Writes word `k` of a template, and a space behind it.
-fn put_next(script: &[u8], template: &[u8], k: usize, m: Made, out: &mut [u8]) -> Made {
-    let d = m.dice;
-    let end = put_word(script, text::word(template, k), d, out, m.n);
-    Made {
-        dice: dice::thrown(dice::thrown(dice::thrown(d))),
-        n: text::put(out, end, b' '),
+// Writes the words of a template, with a space behind each.
+fn put_words(script: &[u8], template: &[u8], d: u64, out: &mut [u8]) -> Made {
+    let words = text::words_in(template);
+    let mut dice = d;
+    let mut n = 0;
+    let mut k = 0;
+    while k < words {
+        n = put_word(script, text::word(template, k), dice, out, n);
+        n = text::put(out, n, b' ');
+        dice = dice::thrown(dice::thrown(dice::thrown(dice)));
+        k += 1;
     }
-}
-
-fn one_less(n: usize) -> usize {
-    if 0 < n { n - 1 } else { n }
+    Made { dice, n }
 }
 
 // Writes a line and its line feed to the start of `out`.
-pub(crate) fn line(script: &[u8], templates: u64, d: Dice, out: &mut [u8]) -> Made {
+pub(crate) fn line(script: &[u8], templates: u64, d: u64, out: &mut [u8]) -> Made {
+    let mut words = [0u8; LOG];
     let template = nth(script, b"line", dice::below(d, templates));
-    let words = text::words_in(template);
-    let mut m = Made {
-        dice: dice::thrown(d),
-        n: 0,
-    };
-    let mut k = 0;
-    while k < words {
-        m = put_next(script, template, k, m, out);
-        k += 1;
-    }
-    let dice = m.dice;
+    let made = put_words(script, template, dice::thrown(d), &mut words);
+    let e = expand::expand(script, text::but_last(text::first(&words, made.n)), out);
     Made {
-        dice,
-        n: text::put(out, one_less(m.n), b'\n'),
+        dice: made.dice,
+        n: text::put(out, e.n, b'\n'),
     }
-}
-
-// How many templates a script has.
-pub(crate) fn templates(script: &[u8]) -> u64 {
-    let mut k = 0;
-    while k < 1000 {
-        let template = nth(script, b"line", k);
-        if template.len() == 0 {
-            return k;
-        }
-        k += 1;
-    }
-    k
 }

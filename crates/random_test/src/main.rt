@@ -12,16 +12,13 @@ mod dice;
 mod lines_made;
 mod view;
 
-use counts::Counts;
-use dice::Dice;
-use lines::MAX_LINE;
 use lines::MAX_RECORD;
+use lines_made::LOG;
 use lines_made::nth;
+use machine_state::Booted;
 use machine_state::Machine;
+use machine_state::Stepped;
 use test_support::text;
-
-// Room for a line with its line feed.
-const LOG: usize = MAX_LINE + 1;
 
 // How many machines are run, and how many events each of them meets.
 const MACHINES: usize = 77;
@@ -31,131 +28,124 @@ const EVENTS: u64 = 200;
 // How many events a machine meets that is off.
 const EVENTS_OFF: u64 = 8;
 
-// The dice, the counts, how many claims were broken, and how many events met the machine while it
-// was off.
+// The dice, and how many claims were broken.
 struct Totals {
-    dice: Dice,
-    counts: Counts,
+    dice: u64,
     broken: u64,
-    off: u64,
 }
 
-// A machine that meets events.
+// A machine that meets events: beside these, the kind of the last answer, and how many events met the
+// machine while it was off.
 struct Going {
     machine: Machine,
-    totals: Totals,
+    dice: u64,
+    broken: u64,
+    kind: usize,
+    off: u64,
 }
 
 fn main() {
     let mut script = io::large_buffer();
     let n = io::read_full(0, &mut script);
-    print(run(&script[..n]), &script[..n]);
+    run(&script[..n]);
 }
 
-// The counts, and how many claims were broken.
-fn print(t: Totals, script: &[u8]) {
-    let c = t.counts;
-    counts::print(c, script);
+// Every machine; then the counts, and how many claims were broken.
+fn run(script: &[u8]) {
+    let templates = lines_made::templates(script);
+    let mut counts = [0u64; counts::KINDS];
+    let mut t = Totals {
+        dice: dice::SEED,
+        broken: 0,
+    };
+    let mut left = MACHINES;
+    while 0 < left {
+        let booted = boot(script, left);
+        counts::count(&mut counts, counts::kind_of_boot(booted.code));
+        let machine = booted.machine;
+        t = events(machine, t, script, templates, &mut counts);
+        left -= 1;
+    }
+    counts::print(&counts, script);
     io::print_decimal(1, t.broken);
     io::write_all(1, b" broken claims\n");
 }
 
-// Every machine.
-fn run(script: &[u8]) -> Totals {
-    let templates = lines_made::templates(script);
-    let mut t = Totals {
-        dice: dice::seeded(),
-        counts: counts::none(),
-        broken: 0,
-        off: 0,
-    };
-    let mut left = MACHINES;
-    while 0 < left {
-        t = one_machine(booted(t, script, left), script, templates);
-        left -= 1;
-    }
-    t
-}
-
 // The next machine: the script's list `system` has the records, some of which are refused.
-fn booted(t: Totals, script: &[u8], k: usize) -> Going {
-    let c = t.counts;
-    let dice = t.dice;
+fn boot(script: &[u8], k: usize) -> Booted {
     let r = lines_made::record_of(script, lines_made::of_list(script, b"system", k));
     let b = r.b;
-    let booted = machine_state::boot(text::first(&b, r.n));
-    let machine = booted.machine;
-    let totals = Totals {
-        dice,
-        counts: counts::with_boot(c, booted.code),
-        broken: t.broken,
-        off: 0,
-    };
-    Going { machine, totals }
+    machine_state::boot(text::first(&b, r.n))
 }
 
 // Every event of a machine.
-fn one_machine(g: Going, script: &[u8], templates: u64) -> Totals {
-    let mut going = g;
+fn events(start: Machine, t: Totals, script: &[u8], templates: u64, counts: &mut [u64]) -> Totals {
+    let mut g = Going {
+        machine: start,
+        dice: t.dice,
+        broken: t.broken,
+        kind: 0,
+        off: 0,
+    };
     let mut left = EVENTS;
     while 0 < left {
-        let t = going.totals;
-        if EVENTS_OFF <= t.off {
-            return t;
+        if EVENTS_OFF <= g.off {
+            return ended(g);
         }
-        going = one_event(going, script, templates);
+        g = one_event(g, script, templates);
+        counts::count(counts, g.kind);
         left -= 1;
     }
-    going.totals
+    ended(g)
+}
+
+fn ended(g: Going) -> Totals {
+    Totals {
+        dice: g.dice,
+        broken: g.broken,
+    }
 }
 
 // One event, by both entries, and the claims.
 fn one_event(g: Going, script: &[u8], templates: u64) -> Going {
     let mut log = [0u8; LOG];
-    let mut out = [0u8; 64];
-    let mut record = [0u8; MAX_RECORD];
-    let before = g.machine;
-    let t = g.totals;
-    let d = t.dice;
-    let made = lines_made::line(script, templates, d, &mut log);
+    let made = lines_made::line(script, templates, g.dice, &mut log);
     let line = text::first(&log, made.n);
-    let ran = replay_log::run(replay_log::start(before), line, &mut out);
-    let run = ran.replay;
-    let of_run = run.machine;
-    let read = lines::read_line(text::but_last(line), &mut record);
-    let event = read.event;
-    let stepped = manager::step(before, event, text::first(&record, read.len));
+    let before = g.machine;
+    let stepped = by_shim(before, text::but_last(line));
+    let broken = told(
+        g.broken,
+        script,
+        claims::broken(before, stepped, line),
+        line,
+    );
     let answer = stepped.answer;
     let machine = stepped.machine;
-    let claim = claims::broken(
-        before,
+    let kind = counts::kind_of(answer);
+    Going {
         machine,
-        of_run,
-        answer,
-        text::first(&out, ran.written),
-    );
-    let dice = made.dice;
-    let c = t.counts;
-    let totals = Totals {
-        dice,
-        counts: counts::with_answer(c, answer),
-        broken: told(t.broken, nth(script, b"claim", claim), line),
-        off: counts::with_off(t.off, answer),
-    };
-    Going { machine, totals }
+        dice: made.dice,
+        broken,
+        kind,
+        off: std::num::wrapping_add_u64(g.off, (kind == counts::OFF) as u64),
+    }
+}
+
+// A line by the entry for the shim.
+fn by_shim(m: Machine, line: &[u8]) -> Stepped {
+    let mut record = [0u8; MAX_RECORD];
+    let read = lines::read_line(line, &mut record);
+    let event = read.event;
+    manager::step(m, event, text::first(&record, read.len))
 }
 
 // Prints a broken claim with the line after which it was, and counts it.
-fn told(broken: u64, claim: &[u8], line: &[u8]) -> u64 {
-    if claim.len() == 0 {
+fn told(broken: u64, script: &[u8], claim: u64, line: &[u8]) -> u64 {
+    if claim == 0 {
         return broken;
     }
-    io::write_all(1, claim);
+    io::write_all(1, nth(script, b"claim", claim));
     io::write_all(1, b": ");
     io::write_all(1, line);
-    if broken < 1_000_000 {
-        broken + 1
-    } else {
-        broken
-    }
+    std::num::wrapping_add_u64(broken, 1)
 }

@@ -1,5 +1,6 @@
 // What a machine is made of: every field that the claims look at is read here.
-use crate::dice::scrambled;
+use crate::dice::SEED;
+use crate::dice::thrown;
 use machine_state::CallKind;
 use machine_state::Cell;
 use machine_state::CommRegion;
@@ -14,54 +15,53 @@ use machine_state::Waiting;
 use region_table::MAX_REGIONS;
 use regions::MemRegion;
 
-// The CPU sets of the live cells, root's at 0.
-pub struct Sets {
-    pub of: [u64; 16],
+// Two numbers that stand for a machine: for all that an event may change but the exit counters, and
+// for these.
+pub struct Print {
+    pub state: u64,
+    pub counters: u64,
+}
+
+pub(crate) fn is_same(a: Print, b: Print) -> bool {
+    (a.state == b.state) & (a.counters == b.counters)
 }
 
 // A number that stands for `h` and `v` together.
-pub(crate) fn with(h: u64, v: u64) -> u64 {
-    scrambled(std::num::wrapping_add_u64(h, 0x9e37_79b9_7f4a_7c15) ^ v)
+fn with(h: u64, v: u64) -> u64 {
+    thrown(std::num::wrapping_add_u64(h, SEED) ^ v)
 }
 
-fn cpu_print(h: u64, c: Cpu) -> u64 {
-    with(
-        with(with(h, c.cell as u64), c.stopped as u64),
-        c.failed as u64,
-    )
-}
-
-fn counters_print(h: u64, c: Cpu) -> u64 {
-    let n = c.counters;
-    let h = with_two(h, n[0], n[1]);
-    let h = with_two(h, n[2], n[3]);
-    with_two(h, n[4], n[5])
-}
-
-fn with_two(h: u64, a: u32, b: u32) -> u64 {
-    with(with(h, a as u64), b as u64)
-}
-
-// The owners and marks of all CPUs.
-fn cpus_print(h: u64, cpus: [Cpu; MAX_CPUS]) -> u64 {
+fn counters_print(h: u64, counters: [u32; 6]) -> u64 {
     let mut sum = h;
     let mut i = 0;
-    while i < MAX_CPUS {
-        sum = cpu_print(sum, cpus[i]);
+    while i < 6 {
+        sum = with(sum, counters[i] as u64);
         i += 1;
     }
     sum
 }
 
-// The exit counters of all CPUs.
-fn all_counters_print(cpus: [Cpu; MAX_CPUS]) -> u64 {
-    let mut sum = 0;
+// The owner and the marks of a CPU, and its exit counters.
+fn cpu_print(p: Print, c: Cpu) -> Print {
+    let counters = c.counters;
+    let owner = with(p.state, c.cell as u64);
+    Print {
+        state: with(with(owner, c.stopped as u64), c.failed as u64),
+        counters: counters_print(p.counters, counters),
+    }
+}
+
+fn cpus_print(h: u64, cpus: [Cpu; MAX_CPUS]) -> Print {
+    let mut p = Print {
+        state: h,
+        counters: 0,
+    };
     let mut i = 0;
     while i < MAX_CPUS {
-        sum = counters_print(sum, cpus[i]);
+        p = cpu_print(p, cpus[i]);
         i += 1;
     }
-    sum
+    p
 }
 
 fn comm_print(h: u64, c: CommRegion) -> u64 {
@@ -71,16 +71,6 @@ fn comm_print(h: u64, c: CommRegion) -> u64 {
         with(with(h, c.msg_to_cell as u64), c.reply_from_cell as u64),
         c.cell_state as u64,
     )
-}
-
-fn comms_print(h: u64, comms: [CommRegion; MAX_CELLS]) -> u64 {
-    let mut sum = h;
-    let mut i = 0;
-    while i < MAX_CELLS {
-        sum = comm_print(sum, comms[i]);
-        i += 1;
-    }
-    sum
 }
 
 fn phase_number(p: Phase) -> u64 {
@@ -109,14 +99,10 @@ fn name_print(h: u64, name: [u8; 32]) -> u64 {
     let mut sum = h;
     let mut i = 0;
     while i < 32 {
-        sum = with(sum, wide(name[i]));
+        sum = with(sum, name[i] as u64);
         i += 1;
     }
     sum
-}
-
-fn wide(b: u8) -> u64 {
-    b as u64
 }
 
 fn cell_print(h: u64, c: Cell) -> u64 {
@@ -127,11 +113,12 @@ fn cell_print(h: u64, c: Cell) -> u64 {
     regions_print(name_print(with(h, c.region_count as u64), name), regions)
 }
 
-fn cells_print(h: u64, cells: [Cell; MAX_CELLS]) -> u64 {
+// The cells, and the words of their communication regions.
+fn cells_print(h: u64, cells: [Cell; MAX_CELLS], comms: [CommRegion; MAX_CELLS]) -> u64 {
     let mut sum = h;
     let mut i = 0;
     while i < MAX_CELLS {
-        sum = cell_print(sum, cells[i]);
+        sum = comm_print(cell_print(sum, cells[i]), comms[i]);
         i += 1;
     }
     sum
@@ -167,14 +154,8 @@ fn power_number(p: Power) -> u64 {
     }
 }
 
-// A number that stands for the exit counters of a machine.
-pub(crate) fn counters_of(m: Machine) -> u64 {
-    let cpus = m.cpus;
-    all_counters_print(cpus)
-}
-
-// A number that stands for all that an event may change, but for the exit counters.
-pub(crate) fn state_of(m: Machine) -> u64 {
+// What stands for a machine.
+pub(crate) fn print_of(m: Machine) -> Print {
     let power = m.power;
     let waiting = m.waiting;
     let cells = m.cells;
@@ -182,86 +163,74 @@ pub(crate) fn state_of(m: Machine) -> u64 {
     let cpus = m.cpus;
     let h = with(with(m.pool_used as u64, m.live_ids as u64), m.root_cpus);
     let h = waiting_print(with(h, power_number(power)), waiting);
-    cpus_print(comms_print(cells_print(h, cells), comms), cpus)
+    cpus_print(cells_print(h, cells, comms), cpus)
 }
 
 // Whether a set of CPUs, or of IDs, has a number.
-pub(crate) fn has(set: u64, k: u64) -> bool {
+fn has(set: u64, k: u64) -> bool {
     if k < 64 { (set >> k) % 2 == 1 } else { false }
 }
 
-fn is_live(ids: u16, k: u64) -> bool {
-    has(ids as u64, k)
-}
-
 // The CPUs of a live cell, and of root those that it has now.
-fn set_of(ids: u16, root: u64, i: usize, c: Cell) -> u64 {
+fn set_of(m: Machine, i: usize, c: Cell) -> u64 {
     if i == 0 {
-        return root;
+        return m.root_cpus;
     }
-    if is_live(ids, i as u64) { c.cpus } else { 0 }
+    if has(m.live_ids as u64, i as u64) {
+        c.cpus
+    } else {
+        0
+    }
 }
 
-fn all_sets(ids: u16, root: u64, cells: [Cell; MAX_CELLS]) -> Sets {
-    let mut of = [0u64; 16];
+// Whether a cell has the CPUs of a set.
+fn owns(cpus: [Cpu; MAX_CPUS], set: u64, id: usize) -> bool {
+    let mut ok = true;
+    let mut k = 0;
+    while k < MAX_CPUS {
+        let c = cpus[k];
+        ok = ok & (!has(set, k as u64) | (c.cell == id));
+        k += 1;
+    }
+    ok
+}
+
+// Whether each started CPU is of one set, and has that set's cell as its owner.
+pub(crate) fn have_one_owner(m: Machine) -> bool {
+    let cpus = m.cpus;
+    let cells = m.cells;
+    let mut ok = true;
+    let mut left = m.system.cpus;
     let mut i = 0;
     while i < MAX_CELLS {
-        of[i] = set_of(ids, root, i, cells[i]);
+        let set = m.system.cpus & set_of(m, i, cells[i]);
+        ok = ok & (left & set == set) & owns(cpus, set, i);
+        left = left ^ set;
         i += 1;
     }
-    Sets { of }
+    ok & (left == 0)
 }
 
-// The CPUs of each live cell.
-pub(crate) fn sets_of(m: Machine) -> Sets {
+// The pool pages of a live cell: 2 and one for each region.
+fn cost_of(m: Machine, i: usize, c: Cell) -> u64 {
+    if has(m.live_ids as u64, i as u64) {
+        std::num::wrapping_add_u64(c.region_count as u64, 2)
+    } else {
+        0
+    }
+}
+
+// Whether the pool pages in use are boot's figure and those of the live cells.
+pub(crate) fn pool_is_sum(m: Machine) -> bool {
     let cells = m.cells;
-    all_sets(m.live_ids, m.root_cpus, cells)
-}
-
-pub(crate) fn boot_cpus(m: Machine) -> u64 {
-    m.system.cpus
-}
-
-pub(crate) fn owner_of_cpu(c: Cpu) -> u64 {
-    c.cell as u64
-}
-
-// The pool pages that boot's figure and the live cells make: 2 and one for each region.
-fn pool_of(used: u64, ids: u16, cells: [Cell; MAX_CELLS]) -> u64 {
-    let mut sum = used;
+    let pool = m.system.pool;
+    let mut sum = pool.used as u64;
     let mut i = 1;
     while i < MAX_CELLS {
-        let c = cells[i];
-        if is_live(ids, i as u64) {
-            sum = with_cost(sum, c.region_count as u64);
-        }
+        sum = std::num::wrapping_add_u64(sum, cost_of(m, i, cells[i]));
         i += 1;
     }
-    sum
-}
-
-fn with_cost(sum: u64, regions: u64) -> u64 {
-    if 0x1_0000_0000 < sum {
-        return sum;
-    }
-    if 100 < regions {
-        return sum;
-    }
-    sum + 2 + regions
-}
-
-// Whether the pool pages in use are that sum.
-pub(crate) fn pool_is_sum(m: Machine) -> bool {
-    let pool = m.system.pool;
-    let cells = m.cells;
-    m.pool_used as u64 == pool_of(pool.used as u64, m.live_ids, cells)
-}
-
-// How a physical page stands with the cells but root: how many have it in a region that is not
-// their communication region, and whether a cell in loading has it in a loadable one.
-pub struct Touch {
-    pub cells: u64,
-    pub loading: bool,
+    m.pool_used as u64 == sum
 }
 
 fn has_page(r: MemRegion, page: u64) -> bool {
@@ -272,55 +241,42 @@ fn has_page(r: MemRegion, page: u64) -> bool {
     page - start < r.size / 4096
 }
 
-// The page in one of a cell's regions.
-fn touch_of(c: Cell, page: u64) -> Touch {
+// 1 where a region that is not a communication region has a page, and 256 more where it is loadable
+// and its cell in loading.
+fn touch_in(r: MemRegion, page: u64, loads: bool) -> u64 {
+    let touches = has_page(r, page) & !regions::is_comm(r);
+    let loading = touches & loads & regions::is_loadable(r);
+    (touches as u64) | ((loading as u64) << 8)
+}
+
+// The same for the regions of a cell.
+fn touch_of(c: Cell, page: u64) -> u64 {
     let phase = c.phase;
     let regions = c.regions;
     let loads = phase_number(phase) == 1;
-    let mut t = Touch {
-        cells: 0,
-        loading: false,
-    };
+    let mut touch = 0;
     let mut i = 0;
     while i < MAX_REGIONS {
-        let r = regions[i];
-        if has_page(r, page) & !regions::is_comm(r) & (i < c.region_count) {
-            t = Touch {
-                cells: 1,
-                loading: loads & regions::is_loadable(r),
-            };
+        if i < c.region_count {
+            touch = touch | touch_in(regions[i], page, loads);
         }
         i += 1;
     }
-    t
+    touch
 }
 
-fn both(a: Touch, b: Touch) -> Touch {
-    Touch {
-        cells: if a.cells < 100 {
-            a.cells + b.cells % 2
-        } else {
-            a.cells
-        },
-        loading: a.loading | b.loading,
-    }
-}
-
-// The page in the regions of all live cells but root.
-pub(crate) fn touch_by_cells(m: Machine, page: u64) -> Touch {
+// The sum for all live cells but root: below 256 stands how many have the page.
+pub(crate) fn touch_by_cells(m: Machine, page: u64) -> u64 {
     let cells = m.cells;
-    let mut t = Touch {
-        cells: 0,
-        loading: false,
-    };
+    let mut sum = 0;
     let mut i = 1;
     while i < MAX_CELLS {
-        if is_live(m.live_ids, i as u64) {
-            t = both(t, touch_of(cells[i], page));
+        if has(m.live_ids as u64, i as u64) {
+            sum = std::num::wrapping_add_u64(sum, touch_of(cells[i], page));
         }
         i += 1;
     }
-    t
+    sum
 }
 
 // Whether a call waits.

@@ -1,4 +1,4 @@
--- `random_test::claims::pages_hold` is safe and ends. The loop's invariant: i is at most 10. Assumes nothing.
+-- `random_test::claims::pages_hold` is safe and ends. The pages are counted up. Assumes nothing.
 use Prim.Native.Nat.{_≤_, _-_}
 use borrow.Author.Needs.{needs}
 use Rattle.random_test.proofs.claims.pages_hold.Statement.{statement}
@@ -11,4 +11,4 @@ abbrev μ-loop : tie.MeasureT-loop
 μ-loop m ok₀ i₀ ok i = 10 - i
 
 pub pages-hold-spec : {M : Type 1} → statement M
-pages-hold-spec = tie.close (tie.spec Inv-loop μ-loop (λ c. search needs) (λ c κs. search needs) (λ c κs. search needs) (λ c. search needs) (λ c. search needs) (λ c. search needs) (λ c. search needs))
+pages-hold-spec = tie.close (tie.spec Inv-loop μ-loop (λ c. search needs) (λ c. search needs) (λ c. search needs) (λ c κs. tt) (λ c. search needs) (λ c. search needs) (λ c. search needs) (λ c. tt))
