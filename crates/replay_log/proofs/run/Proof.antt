@@ -589,4 +589,4 @@ returns c =
     }
 
 pub run-spec : {M : Type 1} → statement M
-run-spec = tie.close (tie.spec Inv-loop μ-loop (λ c κs. tt) (λ c κs. tt) (λ c κs. tt) loop-holds goes-on-requires (λ c. c .match .keys1) line-end-requires (λ c. search needs) (λ c. search needs) (λ c. search needs) (λ c. search needs) (λ c κs. search needs) (λ c. search needs) (λ c. search needs) (λ c. search needs) (λ c. search needs) slice-aggregate-read-line (λ c κs. tt) (λ c κs. tt) (λ c κs. tt) (λ c κs. tt) loop-less loop-again loop-less-2 loop-again-2 (λ c. c .match .keys2) (λ c κs. tt) mul-c array-copy-out-c (λ c. search needs) (λ c. search needs) part-look-end (λ c κs. tt) (λ c κs. tt) (λ c κs. tt) loop-less-3 loop-again-3 (λ c. c .match .keys3) (λ c κs. tt) (λ c. indexed _ 64 _ (c .cpu-for .ensures .inside) refl) (λ c. c .cpu-for .ensures .inside) (λ c κs. tt) (λ c. indexed _ 64 _ (c .asked-for .ensures .inside) refl) (λ c. c .asked-for .ensures .inside) (λ c κs. tt) (λ c κs. tt) (λ c. indexed _ 16 _ (c .words-for .ensures .inside) refl) (λ c. c .words-for .ensures .inside) (λ c κs. tt) (λ c κs. tt) (λ c κs. tt) (λ c. indexed _ 16 _ (c .before .before .before .before .before .cell-index .ensures .inside) refl) (λ c. c .before .before .before .before .before .cell-index .ensures .inside) (λ c κs. tt) (λ c. search needs) (λ c. search needs) part-scan-end (λ c κs. tt) (λ c κs. tt) put-requires mul-change-cpu array-copy-out-change-cpu (λ c κs. tt) mul-cpus array-set-from-cpus loop-less-4 loop-again-4 (λ c. c .match .keys4) (λ c κs. tt) (λ c. c .match2 .keys1) mul-change-cpu-2 array-copy-out-change-cpu-2 (λ c κs. tt) mul-cpus-2 array-set-from-cpus-2 (λ c κs. tt) (λ c κs. tt) loop-less-5 loop-again-5 (λ c. c .match2 .keys2) mul-failed-words array-copy-out-failed-words (λ c κs. tt) mul-comms array-set-from-comms mul-set element-copy-out-set loop-less-6 loop-again-6 (λ c. c .match2 .keys3) (λ c κs. tt) (λ c. search needs) (λ c. search needs) part-figures-of-end (λ c κs. tt) mul-numbers-after element-copy-out-numbers-after mul-numbers-after-2 element-copy-out-numbers-after-2 (λ c κs. tt) mul-words-after array-copy-out-words-after (λ c κs. tt) mul-comms-2 array-set-from-comms-2 (λ c κs. tt) (λ c κs. tt) loop-less-7 loop-again-7 (λ c. c .match2 .keys4) loop-less-8 loop-again-8 (λ c. c .match2 .keys5) mul-change-words array-copy-out-change-words (λ c κs. tt) mul-comms-3 array-set-from-comms-3 loop-less-9 loop-again-9 (λ c. c .match .keys5) (λ c. c .match3 .keys1) loop-less-10 loop-again-10 (λ c. c .match3 .keys2) (λ c. search needs) (λ c. search needs) part-new-cell-end (λ c κs. tt) mul-cells array-set-from-cells loop-less-11 loop-again-11 (λ c. c .match3 .keys3) mul-with-phase array-copy-out-with-phase (λ c κs. tt) mul-cells-2 array-set-from-cells-2 loop-less-12 loop-again-12 (λ c. c .match3 .keys4) (λ c κs. tt) mul-cells-3 array-set-from-cells-3 loop-less-13 loop-again-13 same-length returns)
+run-spec = tie.close (tie.spec Inv-loop μ-loop (λ c κs. tt) (λ c κs. tt) (λ c κs. tt) loop-holds goes-on-requires (λ c. c .match .keys1) line-end-requires (λ c. search needs) (λ c. search needs) (λ c. search needs) (λ c. search needs) (λ c κs. search needs) (λ c. search needs) (λ c. zero-le) (λ c. zero-le) (λ c. search needs) slice-aggregate-read-line (λ c κs. tt) (λ c κs. tt) (λ c κs. tt) (λ c κs. tt) loop-less loop-again loop-less-2 loop-again-2 (λ c. c .match .keys2) (λ c κs. tt) mul-c array-copy-out-c (λ c. zero-le) (λ c. zero-le) part-look-end (λ c κs. tt) (λ c κs. tt) (λ c κs. tt) loop-less-3 loop-again-3 (λ c. c .match .keys3) (λ c κs. tt) (λ c. indexed _ 64 _ (c .cpu-for .ensures .inside) refl) (λ c. c .cpu-for .ensures .inside) (λ c κs. tt) (λ c. indexed _ 64 _ (c .asked-for .ensures .inside) refl) (λ c. c .asked-for .ensures .inside) (λ c κs. tt) (λ c κs. tt) (λ c. indexed _ 16 _ (c .words-for .ensures .inside) refl) (λ c. c .words-for .ensures .inside) (λ c κs. tt) (λ c κs. tt) (λ c κs. tt) (λ c. indexed _ 16 _ (c .before .before .before .before .before .cell-index .ensures .inside) refl) (λ c. c .before .before .before .before .before .cell-index .ensures .inside) (λ c κs. tt) (λ c. zero-le) (λ c. zero-le) part-scan-end (λ c κs. tt) (λ c κs. tt) put-requires mul-change-cpu array-copy-out-change-cpu (λ c κs. tt) mul-cpus array-set-from-cpus loop-less-4 loop-again-4 (λ c. c .match .keys4) (λ c κs. tt) (λ c. c .match2 .keys1) mul-change-cpu-2 array-copy-out-change-cpu-2 (λ c κs. tt) mul-cpus-2 array-set-from-cpus-2 (λ c κs. tt) (λ c κs. tt) loop-less-5 loop-again-5 (λ c. c .match2 .keys2) mul-failed-words array-copy-out-failed-words (λ c κs. tt) mul-comms array-set-from-comms mul-set element-copy-out-set loop-less-6 loop-again-6 (λ c. c .match2 .keys3) (λ c κs. tt) (λ c. zero-le) (λ c. zero-le) part-figures-of-end (λ c κs. tt) mul-numbers-after element-copy-out-numbers-after mul-numbers-after-2 element-copy-out-numbers-after-2 (λ c κs. tt) mul-words-after array-copy-out-words-after (λ c κs. tt) mul-comms-2 array-set-from-comms-2 (λ c κs. tt) (λ c κs. tt) loop-less-7 loop-again-7 (λ c. c .match2 .keys4) loop-less-8 loop-again-8 (λ c. c .match2 .keys5) mul-change-words array-copy-out-change-words (λ c κs. tt) mul-comms-3 array-set-from-comms-3 loop-less-9 loop-again-9 (λ c. c .match .keys5) (λ c. c .match3 .keys1) loop-less-10 loop-again-10 (λ c. c .match3 .keys2) (λ c. zero-le) (λ c. zero-le) part-new-cell-end (λ c κs. tt) mul-cells array-set-from-cells loop-less-11 loop-again-11 (λ c. c .match3 .keys3) mul-with-phase array-copy-out-with-phase (λ c κs. tt) mul-cells-2 array-set-from-cells-2 loop-less-12 loop-again-12 (λ c. c .match3 .keys4) (λ c κs. tt) mul-cells-3 array-set-from-cells-3 loop-less-13 loop-again-13 same-length returns)
