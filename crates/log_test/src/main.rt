@@ -21,8 +21,13 @@ struct Progress {
     at: usize,
 }
 
+// Room for a script.
+fn room() -> [u8; 262144] {
+    [0; 262144]
+}
+
 fn main() {
-    let mut s = [0u8; 262144];
+    let mut s = room();
     let n = io::read_full(STDIN_FILENO, &mut s);
     cases::total(blocks(&s[..n]));
 }
@@ -45,64 +50,48 @@ fn blocks(script: &[u8]) -> Tally {
     p.tally
 }
 
-// One block: its log is written out and run every way, and each of its lines is shown.
+// One block: its first line makes a machine, and its log is written out and run.
 fn block(p: Progress, script: &[u8]) -> Progress {
     let mut head = [0u8; 32];
-    let mut log = [0u8; 65536];
     let m = p.machine;
     let t = p.tally;
     let block = show::block_at(script, p.at);
     let begun = logs::begin(m, script, text::line_at(block, 0), &mut head);
+    let answer = text::but_last(text::first(&head, begun.n));
     let start = begun.machine;
-    let n = show::gather(script, block, &mut log);
-    let ran = run_log(
-        start,
-        t,
-        script,
-        block,
-        text::first(&head, begun.n),
-        text::first(&log, n),
-    );
-    let machine = ran.machine;
-    let tally = ran.tally;
-    Progress {
-        machine,
-        tally,
-        at: text::plus(p.at, block.len()),
-    }
+    let mut next = run_log(start, t, script, block, answer);
+    next.at = text::plus(p.at, block.len());
+    next
 }
 
-// Runs a log every way, and shows the block that it is of.
-fn run_log(
-    start: Machine,
-    t: Tally,
-    script: &[u8],
-    block: &[u8],
-    head: &[u8],
-    log: &[u8],
-) -> Progress {
-    let mut answers = [0u8; 16384];
-    let mut stepped = [0u8; 16384];
-    let whole = logs::whole(start, log, &mut answers);
-    let k = logs::by_steps(start, log, &mut stepped);
-    let ran = text::first(&answers, whole.n);
-    let shown = show::show_all(t, script, block, head, ran, text::first(&stepped, k));
-    let machine = whole.machine;
+// Runs the log of a block, and shows each of its lines with its answer.
+fn run_log(start: Machine, t: Tally, script: &[u8], block: &[u8], head: &[u8]) -> Progress {
+    let mut bytes = [0u8; 65536];
+    let mut out = [0u8; 16384];
+    let e = show::gather(script, block, &mut bytes);
+    let log = text::first(&bytes, e.n);
+    let ran = replay_log::run(replay_log::start(start), log, &mut out);
+    let answers = text::first(&out, ran.written);
+    let shown = show::show_all(t, script, block, head, answers);
+    let read = show::checked(shown, e.ok, block, b"a name or an escape cannot be read");
+    let run = ran.replay;
+    let machine = run.machine;
     Progress {
         machine,
-        tally: again(start, shown, log, ran),
+        tally: again(start, read, block, log, answers),
         at: 0,
     }
 }
 
-// The log again, cut into pieces and without its last line feed: each time the same text.
-fn again(start: Machine, t: Tally, log: &[u8], answers: &[u8]) -> Tally {
+// The log again, by the entry for the shim, cut into pieces and without its last line feed: each time
+// the same text.
+fn again(start: Machine, t: Tally, block: &[u8], log: &[u8], answers: &[u8]) -> Tally {
+    let shim = logs::by_steps(start, log, answers);
     let one = logs::in_pieces(start, log, 1, answers);
     let seven = logs::in_pieces(start, log, 7, answers);
     let many = logs::in_pieces(start, log, 64, answers);
     let ended = logs::in_pieces(start, text::but_last(log), 64, answers);
-    let t = show::cut(t, one, b"in pieces of 1 byte");
-    let t = show::cut(t, seven, b"in pieces of 7 bytes");
-    let t = show::cut(t, many, b"in pieces of 64 bytes");
-    show::cut(t, ended, b"without the last line feed")
+    let t = show::checked(t, shim, block, b"other answers by the entry for the shim");
+    let t = show::checked(t, one & seven & many, block, b"other answers in pieces");
+    show::checked(t, ended, block, b"other answers without the last line feed")
 }

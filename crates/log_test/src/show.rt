@@ -2,136 +2,70 @@
 use test_support::cases;
 use test_support::cases::Tally;
 use test_support::expand;
-use test_support::names;
+use test_support::expand::Expanded;
 use test_support::text;
 
-// What a line of a script is.
-pub enum Line {
-    Remark,
-    Record,
-    Boot,
-    Counter,
-    Times,
-    Case,
-    Unknown,
-}
-
-fn kind_of(line: &[u8]) -> Line {
-    if line.len() == 0 {
-        return Line::Remark;
+// What a line of a script is: 0 a record, 1 a counter, 2 times, 3 a boot, 4 a case, 5 a remark, and 6
+// what cannot be read. With 1, 2 and 3 a log begins.
+pub(crate) fn kind_of(line: &[u8]) -> usize {
+    let begin = text::byte(line, 0);
+    if (begin == 0) | (begin == b'#') {
+        return 5;
     }
-    if text::starts(line, b"#") {
-        return Line::Remark;
-    }
-    if text::starts(line, b"record ") {
-        return Line::Record;
+    let k = text::index_of(b"record counter times", text::word(line, 0));
+    if k < 3 {
+        return k;
     }
     if text::starts(line, b"boot @") {
-        return Line::Boot;
-    }
-    if text::starts(line, b"counter ") {
-        return Line::Counter;
-    }
-    if text::starts(line, b"times ") {
-        return Line::Times;
+        return 3;
     }
     if text::find(line, b" > ") < line.len() {
-        return Line::Case;
+        4
+    } else {
+        6
     }
-    Line::Unknown
-}
-
-// Whether a line is one of a log.
-fn is_case(line: &[u8]) -> bool {
-    match kind_of(line) {
-        Line::Case => true,
-        _ => false,
-    }
-}
-
-// Whether a line begins a log.
-fn begins_log(line: &[u8]) -> bool {
-    match kind_of(line) {
-        Line::Boot => true,
-        Line::Counter => true,
-        Line::Times => true,
-        _ => false,
-    }
-}
-
-// The place of the line behind the one at `at`.
-fn next_line(s: &[u8], at: usize) -> usize {
-    let line = text::line_at(s, at);
-    text::plus(text::plus(at, line.len()), 1)
 }
 
 // The block that begins at a place, with its line feeds: up to the next line that begins a log.
 pub(crate) fn block_at(script: &[u8], at: usize) -> &[u8] {
     let block = text::rest(script, at);
-    let mut end = next_line(block, 0);
+    let mut end = text::next_line(block, 0);
     let mut turns = block.len();
     while 0 < turns {
-        if begins_log(text::line_at(block, end)) {
+        let kind = kind_of(text::line_at(block, end));
+        if (0 < kind) & (kind < 4) {
             return text::first(block, end);
         }
-        end = next_line(block, end);
+        end = text::next_line(block, end);
         turns -= 1;
     }
     block
 }
 
-// Writes the log of a block, the bytes of each case and a line feed, and gives its length.
-pub(crate) fn gather(script: &[u8], block: &[u8], log: &mut [u8]) -> usize {
-    let mut n = 0;
+// Writes the log of a block: the bytes of each case and a line feed.
+pub(crate) fn gather(script: &[u8], block: &[u8], log: &mut [u8]) -> Expanded {
+    let mut e = expand::nothing();
     let mut at = 0;
     let mut turns = block.len();
     while 0 < turns {
         if block.len() <= at {
-            return n;
+            return e;
         }
-        n = put_case(script, text::line_at(block, at), log, n);
-        at = next_line(block, at);
+        e = put_case(script, text::line_at(block, at), e, log);
+        at = text::next_line(block, at);
         turns -= 1;
     }
-    n
+    e
 }
 
-// Writes the bytes of a case behind the first `n` of a log.
-fn put_case(script: &[u8], line: &[u8], log: &mut [u8], n: usize) -> usize {
-    let mut bytes = [0u8; 8192];
-    if !is_case(line) {
-        return n;
+// Writes the bytes of a case behind the others of a log.
+fn put_case(script: &[u8], line: &[u8], e: Expanded, log: &mut [u8]) -> Expanded {
+    if kind_of(line) != 4 {
+        return e;
     }
-    let e = expand::expand(script, cases::asked(line), &mut bytes);
-    let end = text::put_all(log, n, text::first(&bytes, e.n));
-    text::put(log, end, b'\n')
-}
-
-// A case with the two entries' answers.
-fn show_case(t: Tally, script: &[u8], line: &[u8], ran: &[u8], stepped: &[u8]) -> Tally {
-    let mut bytes = [0u8; 8192];
-    let e = expand::expand(script, cases::asked(line), &mut bytes);
-    if !e.ok {
-        return cases::unread(t, line, b"a name or an escape cannot be read");
-    }
-    let next = cases::answered(t, line, ran);
-    if check::same(ran, stepped) {
-        return next;
-    }
-    cases::unread(
-        next,
-        stepped,
-        b"this is the answer of the entry for the shim",
-    )
-}
-
-// A boot, which is wrong if its record cannot be read.
-fn show_boot(t: Tally, script: &[u8], line: &[u8], answer: &[u8]) -> Tally {
-    let named = names::record_named(script, text::rest(text::word(cases::asked(line), 1), 1));
-    if named.ok {
-        return cases::answered(t, line, answer);
-    }
-    cases::unread(t, line, b"this record cannot be read")
+    let mut next = expand::expand(script, cases::asked(line), e, log);
+    next.n = text::put(log, next.n, b'\n');
+    next
 }
 
 fn show_remark(t: Tally, line: &[u8]) -> Tally {
@@ -139,67 +73,42 @@ fn show_remark(t: Tally, line: &[u8]) -> Tally {
     t
 }
 
-// One line of a block. `head` is the answer to the block's first line.
-fn show_line(
-    t: Tally,
-    script: &[u8],
-    line: &[u8],
-    head: &[u8],
-    ran: &[u8],
-    stepped: &[u8],
-) -> Tally {
+// One line of a block. `head` is the answer to the block's first line, and `answer` the next one of
+// its log.
+fn show_line(t: Tally, script: &[u8], line: &[u8], head: &[u8], answer: &[u8]) -> Tally {
     match kind_of(line) {
-        Line::Remark => show_remark(t, line),
-        Line::Record => cases::record_line(t, script, line),
-        Line::Boot => show_boot(t, script, line, head),
-        Line::Counter => show_remark(t, line),
-        Line::Times => cases::answered(t, line, head),
-        Line::Case => show_case(t, script, line, ran, stepped),
-        Line::Unknown => cases::unread(t, line, b"this line has no answer"),
+        0 => cases::record_line(t, script, line),
+        2 | 3 => cases::answered(t, line, head),
+        4 => cases::answered(t, line, answer),
+        6 => cases::unread(t, line, b"this line has no answer"),
+        _ => show_remark(t, line),
     }
 }
 
-// How far a block has been shown: the place in it, and in either entry's answers.
+// How far a block has been shown: the place in it, and in the answers to its log.
 struct Shown {
     tally: Tally,
     at: usize,
-    ran: usize,
-    stepped: usize,
+    told: usize,
 }
 
 // One line more of a block.
-fn show_next(
-    s: Shown,
-    script: &[u8],
-    block: &[u8],
-    head: &[u8],
-    ran: &[u8],
-    stepped: &[u8],
-) -> Shown {
+fn show_next(s: Shown, script: &[u8], block: &[u8], head: &[u8], answers: &[u8]) -> Shown {
     let t = s.tally;
     let line = text::line_at(block, s.at);
-    let tally = show_line(
-        t,
-        script,
-        line,
-        head,
-        text::line_at(ran, s.ran),
-        text::line_at(stepped, s.stepped),
-    );
-    let at = next_line(block, s.at);
-    if !is_case(line) {
+    let tally = show_line(t, script, line, head, text::line_at(answers, s.told));
+    let at = text::next_line(block, s.at);
+    if kind_of(line) != 4 {
         return Shown {
             tally,
             at,
-            ran: s.ran,
-            stepped: s.stepped,
+            told: s.told,
         };
     }
     Shown {
         tally,
         at,
-        ran: next_line(ran, s.ran),
-        stepped: next_line(stepped, s.stepped),
+        told: text::next_line(answers, s.told),
     }
 }
 
@@ -209,30 +118,28 @@ pub(crate) fn show_all(
     script: &[u8],
     block: &[u8],
     head: &[u8],
-    ran: &[u8],
-    stepped: &[u8],
+    answers: &[u8],
 ) -> Tally {
     let mut s = Shown {
         tally: t,
         at: 0,
-        ran: 0,
-        stepped: 0,
+        told: 0,
     };
     let mut turns = block.len();
     while 0 < turns {
         if block.len() <= s.at {
             return s.tally;
         }
-        s = show_next(s, script, block, head, ran, stepped);
+        s = show_next(s, script, block, head, answers);
         turns -= 1;
     }
     s.tally
 }
 
-// Says of a log that was cut otherwise whether it got other answers.
-pub(crate) fn cut(t: Tally, same: bool, how: &[u8]) -> Tally {
-    if same {
+// Says of a block what is wrong with its log as a whole, unless `ok`.
+pub(crate) fn checked(t: Tally, ok: bool, block: &[u8], why: &[u8]) -> Tally {
+    if ok {
         return t;
     }
-    cases::unread(t, how, b"this log gets other answers so")
+    cases::unread(t, text::line_at(block, 0), why)
 }

@@ -162,7 +162,7 @@ fn event(m: Machine, t: Tally, script: &[u8], s: &[u8]) -> Done {
     let mut line = [0u8; MAX_LINE];
     let mut record = [0u8; MAX_RECORD];
     let mut out = [0u8; 32];
-    let e = expand::expand(script, cases::asked(s), &mut line);
+    let e = expand::expand(script, cases::asked(s), expand::nothing(), &mut line);
     let bytes = text::first(&line, e.n);
     let read = lines::read_line(bytes, &mut record);
     let said = read.event;

@@ -110,7 +110,8 @@ pub(crate) fn line(script: &[u8], templates: u64, d: u64, out: &mut [u8]) -> Mad
     let mut words = [0u8; LOG];
     let template = nth(script, b"line", dice::below(d, templates));
     let made = put_words(script, template, dice::thrown(d), &mut words);
-    let e = expand::expand(script, text::but_last(text::first(&words, made.n)), out);
+    let bytes = text::but_last(text::first(&words, made.n));
+    let e = expand::expand(script, bytes, expand::nothing(), out);
     Made {
         dice: made.dice,
         n: text::put(out, e.n, b'\n'),

@@ -72,13 +72,19 @@ fn step(script: &[u8], line: &[u8], e: Expanded, out: &mut [u8]) -> Expanded {
     }
 }
 
-// Writes the bytes of a line to the start of `out`, as far as there is room, and says how many.
-pub fn expand(script: &[u8], line: &[u8], out: &mut [u8]) -> Expanded {
-    let mut e = Expanded {
+// Nothing written yet.
+pub fn nothing() -> Expanded {
+    Expanded {
         at: 0,
         n: 0,
         ok: true,
-    };
+    }
+}
+
+// Writes the bytes of a line behind those that have been written, as far as there is room.
+pub fn expand(script: &[u8], line: &[u8], written: Expanded, out: &mut [u8]) -> Expanded {
+    let mut e = written;
+    e.at = 0;
     let mut turns = line.len();
     while 0 < turns {
         if line.len() <= e.at {

@@ -187,3 +187,8 @@ pub fn number_of(w: &[u8]) -> Number {
         digits(w, false)
     }
 }
+
+// Word `k` as a number.
+pub fn number_at(s: &[u8], k: usize) -> Number {
+    number_of(word(s, k))
+}

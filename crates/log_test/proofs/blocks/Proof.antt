@@ -12,4 +12,4 @@ abbrev μ-loop : tie.MeasureT-loop
 μ-loop script p₀ turns₀ p turns = turns
 
 pub blocks-spec : {M : Type 1} → statement M
-blocks-spec = tie.close (tie.spec Inv-loop μ-loop (λ c κs. search needs) (λ c κs. search needs) (λ c. search needs) (λ c. search needs) (λ c κs. search needs) (λ c. search needs) (λ c. search needs) (λ c. search needs) (λ c. search needs))
+blocks-spec = tie.close (tie.spec Inv-loop μ-loop (λ c κs. tt) (λ c κs. tt) (λ c. search needs) (λ c. tt) (λ c κs. tt) (λ c. search needs) (λ c. search needs) (λ c. search needs) (λ c. tt))
