@@ -2,10 +2,10 @@
 // those of `effects`, which the loop over a log stores in place, one by one.
 ghost use Rattle.std.specs.Prelude.{◌≡◌, false, List, ◌∷◌, ℕ};
 ghost use Rattle.cell_record.specs.CellRecord.{cell_of};
-ghost use Rattle.rules.specs.State.{withPower, withWaiting};
-ghost use Rattle.rules.specs.Effects.{effect as effect_of, allDestroyed, disabled};
-ghost use Rattle.asking.specs.Moves.{effectOf, cutOffAt};
-ghost use Rattle.effects.specs.Parts.{isDisable, changedCell};
+ghost use Rattle.rules.specs.State.{with_power, with_waiting};
+ghost use Rattle.rules.specs.Effects.{effect as effect_of, all_destroyed, disabled};
+ghost use Rattle.asking.specs.Moves.{effect_of, cut_off_at};
+ghost use Rattle.effects.specs.Parts.{is_disable, changed_cell};
 
 use asking::Effect;
 use cpu_table::CpuChange;
@@ -14,7 +14,7 @@ use machine_state::{CallKind, Cell, MAX_CELLS, Machine, Power, Waiting};
 
 // The machine with a cell cut off by its reply limit; a number past the table names none.
 pub fn cut_off(mut m: Machine, cut: usize) -> Machine
-    ensures { result ≡ cutOffAt cut m }
+    ensures { result ≡ cut_off_at cut m }
 {
     if cut < MAX_CELLS {
         let cpus = m.cpus;
@@ -27,7 +27,7 @@ pub fn cut_off(mut m: Machine, cut: usize) -> Machine
 
 // What stands at a cell's place after a change, where `c` stood.
 fn cell_after(change: CellChange, record: &[u8], c: Cell) -> Cell
-    ensures { result ≡ changedCell change (cell_of «record».now) c }
+    ensures { result ≡ changed_cell change (cell_of «record».now) c }
 {
     match change {
         CellChange::Keep => c,
@@ -39,7 +39,7 @@ fn cell_after(change: CellChange, record: &[u8], c: Cell) -> Cell
 
 // The machine after the effect of a call on one cell.
 fn on_cell(mut m: Machine, kind: CallKind, id: usize, record: &[u8]) -> Machine
-    ensures { isDisable kind ≡ false → result ≡ effect_of kind id (cell_of «record».now) m }
+    ensures { is_disable kind ≡ false → result ≡ effect_of kind id (cell_of «record».now) m }
 {
     let cpus = m.cpus;
     let i = comms::cell_index(id);
@@ -68,7 +68,7 @@ fn on_cell(mut m: Machine, kind: CallKind, id: usize, record: &[u8]) -> Machine
 
 // The machine after cell `id`, if it is live, was destroyed.
 fn destroy_live(m: Machine, id: usize) -> Machine
-    ensures { (ids : List ℕ) → allDestroyed (id ∷ ids) m ≡ allDestroyed ids result }
+    ensures { (ids : List ℕ) → all_destroyed (id ∷ ids) m ≡ all_destroyed ids result }
 {
     if id_set::is_live(m.live_ids, id as u64) {
         return on_cell(m, CallKind::Destroy, id, b"");
@@ -78,7 +78,7 @@ fn destroy_live(m: Machine, id: usize) -> Machine
 
 // The machine, off.
 fn switch_off(m: Machine) -> Machine
-    ensures { result ≡ withPower Power.Disabled m }
+    ensures { result ≡ with_power Power.Disabled m }
 {
     let system = m.system;
     let cells = m.cells;
@@ -112,7 +112,7 @@ pub fn disable(mut m: Machine) -> Machine
 
 // The machine after an effect. A call with code 1 comes with its record's bytes.
 pub fn carry_out(m: Machine, effect: Effect, record: &[u8]) -> Machine
-    ensures { result ≡ effectOf effect (cell_of «record».now) m }
+    ensures { result ≡ effect_of effect (cell_of «record».now) m }
 {
     match effect {
         Effect::NoEffect => m,
@@ -127,7 +127,7 @@ pub fn carry_out(m: Machine, effect: Effect, record: &[u8]) -> Machine
 
 // The machine with another waiting call.
 pub fn with_waiting(m: Machine, waiting: Waiting) -> Machine
-    ensures { result ≡ withWaiting waiting m }
+    ensures { result ≡ with_waiting waiting m }
 {
     let power = m.power;
     let system = m.system;

@@ -20,24 +20,24 @@ use Rattle.machine_state.specs.declared.Stage.{Stage}
 use Rattle.machine_state.specs.declared.Stepped.{Stepped}
 use Rattle.machine_state.specs.declared.Waiting.{Waiting}
 use Rattle.machine_state.specs.declared.Waiting.TheVariants.{Pending}
-use Rattle.machine_state.specs.Machine.{pastComm, maxCells}
-use Rattle.rules.specs.State.{commAt, no_id, withComm, withWaiting, answered}
-use Rattle.rules.specs.Create.{otherCellLocked}
+use Rattle.machine_state.specs.Machine.{past_comm, max_cells}
+use Rattle.rules.specs.State.{comm_at, no_id, with_comm, with_waiting, answered}
+use Rattle.rules.specs.Create.{other_cell_locked}
 use Rattle.rules.specs.Effects.{effect}
-use Rattle.rules.specs.Asking.{nextToMessage, asks, tells, everyCell, isDestroy, shutdownRequest, asking, telling, waitFor, finished, endCode, tell, carryOut, noneToAsk, ask, consents, hear}
+use Rattle.rules.specs.Asking.{next_to_message, asks, tells, every_cell, is_destroy, shutdown_request, asking, telling, wait_for, finished, end_code, tell, carry_out, none_to_ask, ask, consents, hear}
 use Rattle.comms.specs.declared.WordsChange.TheVariants.{Keep, Message}
 use Rattle.comms.specs.declared.Whom.TheVariants.{EveryoneBut}
-use Rattle.comms.specs.Comms.{words_of, wordsAt, among}
+use Rattle.comms.specs.Comms.{words_of, words_at, among}
 use Rattle.asking.specs.declared.Effect.{Effect}
 use Rattle.asking.specs.declared.Effect.TheVariants.{NoEffect, Comes}
 use Rattle.asking.specs.declared.Move.{Move}
-use Rattle.asking.specs.Moves.{effectOf, moved, Moves, AnyMachine, tellNext}
+use Rattle.asking.specs.Moves.{effect_of, moved, Moves, AnyMachine, tell_next}
 use Rattle.asking.proofs.Told.{told-after}
 
 -- ---- moves
 
-pub kept : (m : Machine) → wordsAt 0 Keep m ≡ m
-unfolding wordsAt words_of withComm
+pub kept : (m : Machine) → words_at 0 Keep m ≡ m
+unfolding words_at words_of with_comm
 kept m = λ i. record {
   power = m.power;
   system = m.system;
@@ -45,29 +45,29 @@ kept m = λ i. record {
   live_ids = m.live_ids;
   root_cpus = m.root_cpus;
   cells = m.cells;
-  comms = set-get_or m.comms 0 pastComm i;
+  comms = set-get_or m.comms 0 past_comm i;
   cpus = m.cpus;
   waiting = m.waiting;
 }
 
-pub same-waiting : (waiting : Waiting) (m : Machine) → m.waiting ≡ waiting → withWaiting waiting m ≡ m
-unfolding withWaiting
-same-waiting waiting m e = ap (λ (w : Waiting). withWaiting w m) (sym e)
+pub same-waiting : (waiting : Waiting) (m : Machine) → m.waiting ≡ waiting → with_waiting waiting m ≡ m
+unfolding with_waiting
+same-waiting waiting m e = ap (λ (w : Waiting). with_waiting w m) (sym e)
 
 -- a move that keeps all words
 pub keeps : (answer : Answer) (come : Effect) (waiting : Waiting)
-    → Moves AnyMachine (λ new m. answered answer (withWaiting waiting (effectOf come new m)))
+    → Moves AnyMachine (λ new m. answered answer (with_waiting waiting (effect_of come new m)))
     (record { answer = answer; effect = come; cell = 0; words = Keep; waiting = waiting })
 unfolding moved
 keeps answer come waiting = record {
-  moves = λ m new h. ap (λ (next : Machine). answered answer (withWaiting waiting next)) (kept (effectOf come new m));
+  moves = λ m new h. ap (λ (next : Machine). answered answer (with_waiting waiting next)) (kept (effect_of come new m));
   place = omega arith;
 }
 
-pub waits-for : (kind : CallKind) (stage : Stage) (code : ℕ) (come : Effect) → stage.cell < maxCells
-    → Moves AnyMachine (λ new m. waitFor kind stage code (effectOf come new m))
+pub waits-for : (kind : CallKind) (stage : Stage) (code : ℕ) (come : Effect) → stage.cell < max_cells
+    → Moves AnyMachine (λ new m. wait_for kind stage code (effect_of come new m))
     (record { answer = Wait stage.cell; effect = come; cell = stage.cell; words = Message code; waiting = Pending kind stage })
-unfolding moved waitFor wordsAt words_of
+unfolding moved wait_for words_at words_of
 waits-for kind stage code come h = record { moves = λ m new t. refl; place = h }
 
 -- a move by one rule is a move by another that says the same of its machines
@@ -78,54 +78,54 @@ moves-as r f e = record { moves = λ m new h. r.moves m new (f m h) ∙ e m new 
 -- ---- telling
 
 module _ (kind : CallKind) (target next : ℕ) (m : Machine) where
-  pub told-one : next < maxCells → waitFor kind (telling target next 0) 2 m ≡ tellNext kind target next m
-  unfolding tellNext
-  told-one h = rw (lt-ltb next maxCells h, tellNext)
+  pub told-one : next < max_cells → wait_for kind (telling target next 0) 2 m ≡ tell_next kind target next m
+  unfolding tell_next
+  told-one h = rw (lt-ltb next max_cells h, tell_next)
 
-  pub told-all : maxCells ≤ next → (code : ℤ) → code ≡ endCode kind target → finished code m ≡ tellNext kind target next m
-  unfolding tellNext
-  told-all h code e = rw (le-ltb next maxCells h, tellNext) (ap (λ (z : ℤ). finished z m) e)
+  pub told-all : max_cells ≤ next → (code : ℤ) → code ≡ end_code kind target → finished code m ≡ tell_next kind target next m
+  unfolding tell_next
+  told-all h code e = rw (le-ltb next max_cells h, tell_next) (ap (λ (z : ℤ). finished z m) e)
 
-  pub tells-next : (after : ℕ) → next ≡ nextToMessage everyCell after m → tellNext kind target next m ≡ tell kind target after m
-  unfolding tellNext tell
-  tells-next after e = ap (λ (k : ℕ). tellNext kind target k m) e
+  pub tells-next : (after : ℕ) → next ≡ next_to_message every_cell after m → tell_next kind target next m ≡ tell kind target after m
+  unfolding tell_next tell
+  tells-next after e = ap (λ (k : ℕ). tell_next kind target k m) e
 
 module _ (kind : CallKind) (target : ℕ) (new : CellConfig) (m : Machine) where
-  pub carried-told : (next : ℕ) → tells kind ≡ true → length m.comms ≡ maxCells → next ≡ nextToMessage (among (EveryoneBut target)) 0 m
-      → tellNext kind target next (effectOf (Comes kind target) new m) ≡ carryOut kind target new m
-  unfolding carryOut effectOf among
+  pub carried-told : (next : ℕ) → tells kind ≡ true → length m.comms ≡ max_cells → next ≡ next_to_message (among (EveryoneBut target)) 0 m
+      → tell_next kind target next (effect_of (Comes kind target) new m) ≡ carry_out kind target new m
+  unfolding carry_out effect_of among
   carried-told next t size e =
-      tells-next kind target next (effect kind target new m) 0 (e ∙ sym (told-after kind target new m t size)) ∙ (rw (t, carryOut) refl)
+      tells-next kind target next (effect kind target new m) 0 (e ∙ sym (told-after kind target new m t size)) ∙ (rw (t, carry_out) refl)
 
-  pub carried-ended : tells kind ≡ false → finished (pos 0) (effectOf (Comes kind target) new m) ≡ carryOut kind target new m
-  unfolding carryOut effectOf
-  carried-ended t = rw (t, carryOut)
+  pub carried-ended : tells kind ≡ false → finished (pos 0) (effect_of (Comes kind target) new m) ≡ carry_out kind target new m
+  unfolding carry_out effect_of
+  carried-ended t = rw (t, carry_out)
 
   -- ---- asking
 
-  pub locked : (isDestroy kind && otherCellLocked target m) ≡ true → finished EPERM (effectOf NoEffect new m) ≡ noneToAsk kind target new m
-  unfolding noneToAsk effectOf
-  locked t = rw (t, noneToAsk)
+  pub locked : (is_destroy kind && other_cell_locked target m) ≡ true → finished EPERM (effect_of NoEffect new m) ≡ none_to_ask kind target new m
+  unfolding none_to_ask effect_of
+  locked t = rw (t, none_to_ask)
 
-  pub not-locked : (isDestroy kind && otherCellLocked target m) ≡ false → carryOut kind target new m ≡ noneToAsk kind target new m
-  unfolding noneToAsk
-  not-locked t = rw (t, noneToAsk)
+  pub not-locked : (is_destroy kind && other_cell_locked target m) ≡ false → carry_out kind target new m ≡ none_to_ask kind target new m
+  unfolding none_to_ask
+  not-locked t = rw (t, none_to_ask)
 
   -- what is done where the next cell to ask is known
   abbrev ask-next : ℕ → Stepped
   ask-next next =
       elim (ltb next no_id) as (λ x. Stepped) [
-        | true ↦ waitFor kind (asking target next 0) shutdownRequest m
-        | false ↦ noneToAsk kind target new m
+        | true ↦ wait_for kind (asking target next 0) shutdown_request m
+        | false ↦ none_to_ask kind target new m
       ]
 
-  module _ (after next : ℕ) (e : next ≡ nextToMessage (asks kind target) after m) where
-    pub asks-one : next < maxCells
-        → waitFor kind (asking target next 0) shutdownRequest (effectOf NoEffect new m) ≡ ask kind target after new m
-    unfolding ask effectOf
+  module _ (after next : ℕ) (e : next ≡ next_to_message (asks kind target) after m) where
+    pub asks-one : next < max_cells
+        → wait_for kind (asking target next 0) shutdown_request (effect_of NoEffect new m) ≡ ask kind target after new m
+    unfolding ask effect_of
     asks-one h = (rw (lt-ltb next no_id h, ask-next) refl) ∙ ap ask-next e
 
-    pub asks_none : maxCells ≤ next → noneToAsk kind target new m ≡ ask kind target after new m
+    pub asks_none : max_cells ≤ next → none_to_ask kind target new m ≡ ask kind target after new m
     unfolding ask
     asks_none h = (rw (le-ltb next no_id h, ask-next) refl) ∙ ap ask-next e
 
@@ -133,7 +133,7 @@ module _ (kind : CallKind) (target : ℕ) (new : CellConfig) (m : Machine) where
 
 -- what a test says of the words that the code has, it says of the machine's
 pub seen : (test : CommRegion → Bool) (m : Machine) (cell : ℕ) (words : CommRegion) (flag b : Bool)
-    → commAt m cell ≡ words → flag ≡ test words → flag ≡ b → test (commAt m cell) ≡ b
+    → comm_at m cell ≡ words → flag ≡ test words → flag ≡ b → test (comm_at m cell) ≡ b
 seen test m cell words flag b w f t = ap test w ∙ sym f ∙ t
 
 module _ (kind : CallKind) (stage : Stage) (new : CellConfig) (m : Machine) where
@@ -142,10 +142,10 @@ module _ (kind : CallKind) (stage : Stage) (new : CellConfig) (m : Machine) wher
   heard-telling t = rw (t, hear)
 
   module _ (asking : stage.telling ≡ false) where
-    pub heard-consent : consents (commAt m stage.cell) ≡ true → ask kind stage.target stage.cell new m ≡ hear kind stage new m
+    pub heard-consent : consents (comm_at m stage.cell) ≡ true → ask kind stage.target stage.cell new m ≡ hear kind stage new m
     unfolding hear
     heard-consent t = rw (asking, hear, t)
 
-    pub heard-denial : consents (commAt m stage.cell) ≡ false → finished EPERM (effectOf NoEffect new m) ≡ hear kind stage new m
-    unfolding hear effectOf
+    pub heard-denial : consents (comm_at m stage.cell) ≡ false → finished EPERM (effect_of NoEffect new m) ≡ hear kind stage new m
+    unfolding hear effect_of
     heard-denial t = rw (asking, hear, t)

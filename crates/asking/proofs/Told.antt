@@ -16,10 +16,10 @@ use Rattle.machine_state.specs.declared.CommRegion.{CommRegion}
 use Rattle.machine_state.specs.declared.CallKind.{CallKind}
 use Rattle.machine_state.specs.declared.CallKind.TheVariants as CallKind
 use Rattle.machine_state.specs.declared.Machine.{Machine}
-use Rattle.machine_state.specs.Machine.{pastComm, noComm, maxCells}
-use Rattle.rules.specs.State.{first, live, commAt, active, isFinal, rootId, withPool, withIds, withRootCpus, withCell, withComm, withCpus}
-use Rattle.rules.specs.Effects.{effect, cellCreated, cellDestroyed, cpusChanged, newComm}
-use Rattle.rules.specs.Asking.{mayBeMessaged, nextToMessage, everyCell, tells}
+use Rattle.machine_state.specs.Machine.{past_comm, no_comm, max_cells}
+use Rattle.rules.specs.State.{first, live, comm_at, active, is_final, root_id, with_pool, with_ids, with_root_cpus, with_cell, with_comm, with_cpus}
+use Rattle.rules.specs.Effects.{effect, cell_created, cell_destroyed, cpus_changed, new_comm}
+use Rattle.rules.specs.Asking.{may_be_messaged, next_to_message, every_cell, tells}
 use Rattle.id_set.proofs.Ids.{has-added, has-dropped}
 
 -- a search finds the same where the tests agree
@@ -32,75 +32,75 @@ first-same p q k (suc n) e =
 
 -- whether a cell may be messaged, by whether it is live and its words
 abbrev look : ℕ → Bool → CommRegion → Bool
-look id is_live words = not (eqb id rootId) && is_live && not (isFinal words.cell_state) && not words.passive
+look id is_live words = not (eqb id root_id) && is_live && not (is_final words.cell_state) && not words.passive
 
 -- of a machine after an effect that touches one cell
 module _ (target : ℕ) (m next : Machine)
-    (same_live : (id : ℕ) → id < maxCells → (id ≡ target → ⊥) → live next id ≡ live m id)
-    (same-words : (id : ℕ) → (id ≡ target → ⊥) → commAt next id ≡ commAt m id)
-    (target-not : target < maxCells → mayBeMessaged next target ≡ false) where
-  same-cell : (id : ℕ) → id < maxCells → (id ≡ target → ⊥) → mayBeMessaged next id ≡ mayBeMessaged m id
-  unfolding mayBeMessaged active
+    (same_live : (id : ℕ) → id < max_cells → (id ≡ target → ⊥) → live next id ≡ live m id)
+    (same-words : (id : ℕ) → (id ≡ target → ⊥) → comm_at next id ≡ comm_at m id)
+    (target-not : target < max_cells → may_be_messaged next target ≡ false) where
+  same-cell : (id : ℕ) → id < max_cells → (id ≡ target → ⊥) → may_be_messaged next id ≡ may_be_messaged m id
+  unfolding may_be_messaged active
   same-cell id h n = ap₂ (λ (l : Bool) (w : CommRegion). look id l w) (same_live id h n) (same-words id n)
 
-  one_cell : (id : ℕ) → id < maxCells
-      → (ltb 0 id && everyCell id && mayBeMessaged next id) ≡ (ltb 0 id && not (eqb id target) && mayBeMessaged m id)
+  one_cell : (id : ℕ) → id < max_cells
+      → (ltb 0 id && every_cell id && may_be_messaged next id) ≡ (ltb 0 id && not (eqb id target) && may_be_messaged m id)
   one_cell id h = go (ℕ_discrete id target)
     where
-      go : Dec (id ≡ target) → (ltb 0 id && true && mayBeMessaged next id) ≡ (ltb 0 id && not (eqb id target) && mayBeMessaged m id)
-      go (yes e) = rw (eq-eqb id target e, ap (mayBeMessaged next) e ∙ target-not (subst (λ (k : ℕ). k < maxCells) e h)) (by-test (ltb 0 id) (mayBeMessaged m id))
+      go : Dec (id ≡ target) → (ltb 0 id && true && may_be_messaged next id) ≡ (ltb 0 id && not (eqb id target) && may_be_messaged m id)
+      go (yes e) = rw (eq-eqb id target e, ap (may_be_messaged next) e ∙ target-not (subst (λ (k : ℕ). k < max_cells) e h)) (by-test (ltb 0 id) (may_be_messaged m id))
         where
           by-test : (a b : Bool) → (a && true && false) ≡ (a && false && b)
           by-test true b = refl
           by-test false b = refl
       go (no n) = rw (ne_eqb id target n, same-cell id h n)
 
-  told-rest : nextToMessage everyCell 0 next ≡ nextToMessage (λ id. not (eqb id target)) 0 m
-  unfolding nextToMessage
+  told-rest : next_to_message every_cell 0 next ≡ next_to_message (λ id. not (eqb id target)) 0 m
+  unfolding next_to_message
   told-rest = first-same _ _ 1 15 (λ id h. one_cell id h)
 
-module _ (target : ℕ) (new : CellConfig) (m : Machine) (size : length m.comms ≡ maxCells) where
-  created-words : (id : ℕ) → (id ≡ target → ⊥) → commAt (cellCreated target new m) id ≡ commAt m id
-  unfolding cellCreated withPool withIds withRootCpus cpusChanged withCpus withCell withComm
-  created-words id n = get_or-set_other m.comms target id (newComm new) pastComm n
+module _ (target : ℕ) (new : CellConfig) (m : Machine) (size : length m.comms ≡ max_cells) where
+  created-words : (id : ℕ) → (id ≡ target → ⊥) → comm_at (cell_created target new m) id ≡ comm_at m id
+  unfolding cell_created with_pool with_ids with_root_cpus cpus_changed with_cpus with_cell with_comm
+  created-words id n = get_or-set_other m.comms target id (new_comm new) past_comm n
 
-  created-own : target < maxCells → commAt (cellCreated target new m) target ≡ newComm new
-  unfolding cellCreated withPool withIds withRootCpus cpusChanged withCpus withCell withComm
-  created-own h = get_or-set_same m.comms target (newComm new) pastComm (omega arith)
+  created-own : target < max_cells → comm_at (cell_created target new m) target ≡ new_comm new
+  unfolding cell_created with_pool with_ids with_root_cpus cpus_changed with_cpus with_cell with_comm
+  created-own h = get_or-set_same m.comms target (new_comm new) past_comm (omega arith)
 
-  created-live : (id : ℕ) → id < maxCells → (id ≡ target → ⊥) → live (cellCreated target new m) id ≡ live m id
-  unfolding cellCreated withPool withIds withRootCpus cpusChanged withCpus withCell withComm
+  created-live : (id : ℕ) → id < max_cells → (id ≡ target → ⊥) → live (cell_created target new m) id ≡ live m id
+  unfolding cell_created with_pool with_ids with_root_cpus cpus_changed with_cpus with_cell with_comm
   created-live id h n = has-added target m.live_ids id h ∙ (rw (ne_eqb id target n) refl)
 
-  created-not : target < maxCells → mayBeMessaged (cellCreated target new m) target ≡ false
-  unfolding mayBeMessaged active newComm
-  created-not h = ap (look target (live (cellCreated target new m) target)) (created-own h) ∙ last (not (eqb target rootId)) (live (cellCreated target new m) target) (not new.passive)
+  created-not : target < max_cells → may_be_messaged (cell_created target new m) target ≡ false
+  unfolding may_be_messaged active new_comm
+  created-not h = ap (look target (live (cell_created target new m) target)) (created-own h) ∙ last (not (eqb target root_id)) (live (cell_created target new m) target) (not new.passive)
     where
       last : (a b c : Bool) → (a && b && false && c) ≡ false
       last true true c = refl
       last true false c = refl
       last false b c = refl
 
-  pub told-created : nextToMessage everyCell 0 (cellCreated target new m) ≡ nextToMessage (λ id. not (eqb id target)) 0 m
-  told-created = told-rest target m (cellCreated target new m) created-live created-words created-not
+  pub told-created : next_to_message every_cell 0 (cell_created target new m) ≡ next_to_message (λ id. not (eqb id target)) 0 m
+  told-created = told-rest target m (cell_created target new m) created-live created-words created-not
 
 module _ (target : ℕ) (m : Machine) where
-  destroyed-words : (id : ℕ) → (id ≡ target → ⊥) → commAt (cellDestroyed target m) id ≡ commAt m id
-  unfolding cellDestroyed withPool withIds withRootCpus cpusChanged withCpus withCell withComm
-  destroyed-words id n = get_or-set_other m.comms target id noComm pastComm n
+  destroyed-words : (id : ℕ) → (id ≡ target → ⊥) → comm_at (cell_destroyed target m) id ≡ comm_at m id
+  unfolding cell_destroyed with_pool with_ids with_root_cpus cpus_changed with_cpus with_cell with_comm
+  destroyed-words id n = get_or-set_other m.comms target id no_comm past_comm n
 
-  destroyed-live : (id : ℕ) → id < maxCells → live (cellDestroyed target m) id ≡ (not (eqb id target) && live m id)
-  unfolding cellDestroyed withPool withIds withRootCpus cpusChanged withCpus withCell withComm
+  destroyed-live : (id : ℕ) → id < max_cells → live (cell_destroyed target m) id ≡ (not (eqb id target) && live m id)
+  unfolding cell_destroyed with_pool with_ids with_root_cpus cpus_changed with_cpus with_cell with_comm
   destroyed-live id h = has-dropped target m.live_ids id h
 
-  destroyed-other : (id : ℕ) → id < maxCells → (id ≡ target → ⊥) → live (cellDestroyed target m) id ≡ live m id
+  destroyed-other : (id : ℕ) → id < max_cells → (id ≡ target → ⊥) → live (cell_destroyed target m) id ≡ live m id
   destroyed-other id h n = destroyed-live id h ∙ (rw (ne_eqb id target n) refl)
 
-  destroyed-not : target < maxCells → mayBeMessaged (cellDestroyed target m) target ≡ false
-  unfolding mayBeMessaged active
+  destroyed-not : target < max_cells → may_be_messaged (cell_destroyed target m) target ≡ false
+  unfolding may_be_messaged active
   destroyed-not h =
-      ap (λ (l : Bool). look target l (commAt (cellDestroyed target m) target)) (destroyed-live target h ∙ own)
-      ∙ second (not (eqb target rootId)) _ _
+      ap (λ (l : Bool). look target l (comm_at (cell_destroyed target m) target)) (destroyed-live target h ∙ own)
+      ∙ second (not (eqb target root_id)) _ _
     where
       own : (not (eqb target target) && live m target) ≡ false
       own = rw (eq-eqb target target refl)
@@ -109,11 +109,11 @@ module _ (target : ℕ) (m : Machine) where
       second true b c = refl
       second false b c = refl
 
-  pub told-destroyed : nextToMessage everyCell 0 (cellDestroyed target m) ≡ nextToMessage (λ id. not (eqb id target)) 0 m
-  told-destroyed = told-rest target m (cellDestroyed target m) destroyed-other destroyed-words destroyed-not
+  pub told-destroyed : next_to_message every_cell 0 (cell_destroyed target m) ≡ next_to_message (λ id. not (eqb id target)) 0 m
+  told-destroyed = told-rest target m (cell_destroyed target m) destroyed-other destroyed-words destroyed-not
 
-pub told-after : (kind : CallKind) (target : ℕ) (new : CellConfig) (m : Machine) → tells kind ≡ true → length m.comms ≡ maxCells
-    → nextToMessage everyCell 0 (effect kind target new m) ≡ nextToMessage (λ id. not (eqb id target)) 0 m
+pub told-after : (kind : CallKind) (target : ℕ) (new : CellConfig) (m : Machine) → tells kind ≡ true → length m.comms ≡ max_cells
+    → next_to_message every_cell 0 (effect kind target new m) ≡ next_to_message (λ id. not (eqb id target)) 0 m
 unfolding tells effect
 told-after CallKind.Disable target new m t size = absurd (holds {b = false} t)
 told-after CallKind.Create target new m t size = told-created target new m size

@@ -1,10 +1,10 @@
 // Asking cells, telling them, and hearing their replies: what a call that asks, or hears a cell, does,
 // decided from the sets of cells and the words of the cell heard alone.
 ghost use Rattle.std.specs.Prelude.{◌≡◌, false, ℕ, ◌<◌};
-ghost use Rattle.rules.specs.State.{withWaiting, answered};
-ghost use Rattle.rules.specs.Asking.{asks, tells as tells-of, isDestroy, endCode, waitFor, finished, carryOut, noneToAsk, ask as ask-of, hear as hear-of};
+ghost use Rattle.rules.specs.State.{with_waiting, answered};
+ghost use Rattle.rules.specs.Asking.{asks, tells as tells_of, is_destroy, end_code, wait_for, finished, carry_out, none_to_ask, ask as ask_of, hear as hear_of};
 ghost use Rattle.comms.specs.Comms.{among};
-ghost use Rattle.asking.specs.Moves.{effectOf, AnyMachine, WithSets, Hears, tellNext, Moves};
+ghost use Rattle.asking.specs.Moves.{effect_of, AnyMachine, WithSets, Hears, tell_next, Moves};
 
 use base::EPERM;
 use comms::{CellSets, Whom, WordsChange};
@@ -32,7 +32,7 @@ pub struct Move {
 
 // A move that changes no words.
 pub fn keep_words(answer: Answer, effect: Effect, waiting: Waiting) -> Move
-    ensures { Moves AnyMachine (λ new m. answered answer (withWaiting waiting (effectOf effect new m))) result }
+    ensures { Moves AnyMachine (λ new m. answered answer (with_waiting waiting (effect_of effect new m))) result }
 {
     Move {
         answer,
@@ -52,7 +52,7 @@ pub fn stay(answer: Answer, waiting: Waiting) -> Move
 
 // The end of a call, with its code.
 fn finish(code: i32, effect: Effect) -> Move
-    ensures { Moves AnyMachine (λ new m. finished code (effectOf effect new m)) result }
+    ensures { Moves AnyMachine (λ new m. finished code (effect_of effect new m)) result }
 {
     keep_words(Answer::Code(code), effect, Waiting::NoCall)
 }
@@ -60,7 +60,7 @@ fn finish(code: i32, effect: Effect) -> Move
 // A message to the stage's cell, for which the call then waits.
 fn wait_for(kind: CallKind, stage: Stage, code: u32, effect: Effect) -> Move
     requires { stage.cell < 16 }
-    ensures { Moves AnyMachine (λ new m. waitFor kind stage code (effectOf effect new m)) result }
+    ensures { Moves AnyMachine (λ new m. wait_for kind stage code (effect_of effect new m)) result }
 {
     let cell = stage.cell;
     Move {
@@ -74,7 +74,7 @@ fn wait_for(kind: CallKind, stage: Stage, code: u32, effect: Effect) -> Move
 
 // The code with which a call ends that has told everyone.
 fn end_code(kind: CallKind, target: usize) -> i32
-    ensures { result ≡ endCode kind target }
+    ensures { result ≡ end_code kind target }
 {
     match kind {
         CallKind::Create => (target % 0x8000_0000) as i32,
@@ -87,7 +87,7 @@ fn end_code(kind: CallKind, target: usize) -> i32
 
 // Telling the cell `next`, or with none left the call's end.
 fn tell_next(kind: CallKind, target: usize, next: usize, effect: Effect) -> Move
-    ensures { Moves AnyMachine (λ new m. tellNext kind target next (effectOf effect new m)) result }
+    ensures { Moves AnyMachine (λ new m. tell_next kind target next (effect_of effect new m)) result }
 {
     if next < MAX_CELLS {
         let stage = Stage {
@@ -104,7 +104,7 @@ fn tell_next(kind: CallKind, target: usize, next: usize, effect: Effect) -> Move
 
 // Whether the call tells after its effect.
 fn tells(kind: CallKind) -> bool
-    ensures { result ≡ tells-of kind }
+    ensures { result ≡ tells_of kind }
 {
     match kind {
         CallKind::Create => true,
@@ -118,7 +118,7 @@ fn tells(kind: CallKind) -> bool
 // The effect of a call that may go ahead, and what follows it. The cells that are told after it are
 // those that could be told before it, but the target.
 fn carry_out(cells: CellSets, kind: CallKind, target: usize) -> Move
-    ensures { Moves (WithSets cells) (carryOut kind target) result }
+    ensures { Moves (WithSets cells) (carry_out kind target) result }
 {
     let effect = Effect::Comes(kind, target);
     if tells(kind) {
@@ -131,7 +131,7 @@ fn carry_out(cells: CellSets, kind: CallKind, target: usize) -> Move
 
 // Whether the call is Destroy.
 pub fn is_destroy(kind: CallKind) -> bool
-    ensures { result ≡ isDestroy kind }
+    ensures { result ≡ is_destroy kind }
 {
     match kind {
         CallKind::Destroy => true,
@@ -144,7 +144,7 @@ pub fn is_destroy(kind: CallKind) -> bool
 
 // What follows when no cell is left to ask: Destroy looks at the locks once more.
 fn none_to_ask(cells: CellSets, kind: CallKind, target: usize) -> Move
-    ensures { Moves (WithSets cells) (noneToAsk kind target) result }
+    ensures { Moves (WithSets cells) (none_to_ask kind target) result }
 {
     if is_destroy(kind) & comms::is_locked_but(cells.locked, target) {
         finish(EPERM, Effect::NoEffect)
@@ -168,7 +168,7 @@ fn asked(kind: CallKind, target: usize) -> Whom
 
 // Moves on while asking: messages the next cell after `after`, or comes to the effect.
 pub fn ask(cells: CellSets, kind: CallKind, target: usize, after: usize) -> Move
-    ensures { Moves (WithSets cells) (ask-of kind target after) result }
+    ensures { Moves (WithSets cells) (ask_of kind target after) result }
 {
     let next = comms::next_cell(cells.messageable, asked(kind, target), after);
     if next < MAX_CELLS {
@@ -186,7 +186,7 @@ pub fn ask(cells: CellSets, kind: CallKind, target: usize, after: usize) -> Move
 
 // What the reply of a heard cell, whose words are `w`, leads to.
 pub fn hear(cells: CellSets, w: CommRegion, kind: CallKind, stage: Stage) -> Move
-    ensures { Moves (Hears cells w stage) (hear-of kind stage) result }
+    ensures { Moves (Hears cells w stage) (hear_of kind stage) result }
 {
     let cell = stage.cell;
     let target = stage.target;

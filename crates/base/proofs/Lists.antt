@@ -137,11 +137,11 @@ module _ (p : ℕ → Bool) where
       subst (λ (m : ℕ). T (p m)) (suc-add k i ∙ sym (add-suc k i))
       (from-elim (suc k) n (and_right (p k) (all p (from (suc k) n)) t) i (le_of_suc-le-suc h))
 
-  pub upTo-intro : (n : ℕ) → ((i : ℕ) → i < n → T (p i)) → T (all p (up_to n))
-  upTo-intro n f = from-intro 0 n (λ i h. subst (λ (m : ℕ). T (p m)) (sym (zero-add i)) (f i h))
+  pub up_to-intro : (n : ℕ) → ((i : ℕ) → i < n → T (p i)) → T (all p (up_to n))
+  up_to-intro n f = from-intro 0 n (λ i h. subst (λ (m : ℕ). T (p m)) (sym (zero-add i)) (f i h))
 
-  pub upTo-elim : (n : ℕ) → T (all p (up_to n)) → (i : ℕ) → i < n → T (p i)
-  upTo-elim n t i h = subst (λ (m : ℕ). T (p m)) (zero-add i) (from-elim 0 n t i h)
+  pub up_to-elim : (n : ℕ) → T (all p (up_to n)) → (i : ℕ) → i < n → T (p i)
+  up_to-elim n t i h = subst (λ (m : ℕ). T (p m)) (zero-add i) (from-elim 0 n t i h)
 
 -- equal lists, as a test and as a fact
 pub same-eq : (xs ys : List ℕ) → T (same xs ys) → xs ≡ ys
@@ -176,23 +176,23 @@ module _ {ℓ} {A : Type ℓ} (f : ℕ → A) where
   length_from k zero = refl
   length_from k (suc n) = ap suc (length_from (suc k) n)
 
-  getD-from : (k n i : ℕ) (d : A) → i < n → get_or (map f (from k n)) i d ≡ f (k + i)
+  get_or-from : (k n i : ℕ) (d : A) → i < n → get_or (map f (from k n)) i d ≡ f (k + i)
   unfolding from
-  getD-from k zero i d h = absurd (not-suc-le-zero h)
-  getD-from k (suc n) zero d h = ap f (sym (add-zero k))
-  getD-from k (suc n) (suc i) d h = getD-from (suc k) n i d (le_of_suc-le-suc h) ∙ ap f (suc-add k i ∙ sym (add-suc k i))
+  get_or-from k zero i d h = absurd (not-suc-le-zero h)
+  get_or-from k (suc n) zero d h = ap f (sym (add-zero k))
+  get_or-from k (suc n) (suc i) d h = get_or-from (suc k) n i d (le_of_suc-le-suc h) ∙ ap f (suc-add k i ∙ sym (add-suc k i))
 
-  pub length-upTo : (n : ℕ) → length (map f (up_to n)) ≡ n
-  length-upTo n = length_from 0 n
+  pub length-up_to : (n : ℕ) → length (map f (up_to n)) ≡ n
+  length-up_to n = length_from 0 n
 
-  pub getD-upTo : (n i : ℕ) (d : A) → i < n → get_or (map f (up_to n)) i d ≡ f i
-  getD-upTo n i d h = getD-from 0 n i d h ∙ ap f (zero-add i)
+  pub get_or-up_to : (n i : ℕ) (d : A) → i < n → get_or (map f (up_to n)) i d ≡ f i
+  get_or-up_to n i d h = get_or-from 0 n i d h ∙ ap f (zero-add i)
 
   -- a list of n elements that agree with the function at each place
-  pub map-upTo : (n : ℕ) (d : A) (xs : List A) → length xs ≡ n → ((i : ℕ) → i < n → get_or xs i d ≡ f i) → xs ≡ map f (up_to n)
-  map-upTo n d xs l e =
-      ext_get_or d xs (map f (up_to n)) (l ∙ sym (length-upTo n))
-      (λ i h. e i (subst (λ (m : ℕ). i < m) l h) ∙ sym (getD-upTo n i d (subst (λ (m : ℕ). i < m) l h)))
+  pub map-up_to : (n : ℕ) (d : A) (xs : List A) → length xs ≡ n → ((i : ℕ) → i < n → get_or xs i d ≡ f i) → xs ≡ map f (up_to n)
+  map-up_to n d xs l e =
+      ext_get_or d xs (map f (up_to n)) (l ∙ sym (length-up_to n))
+      (λ i h. e i (subst (λ (m : ℕ). i < m) l h) ∙ sym (get_or-up_to n i d (subst (λ (m : ℕ). i < m) l h)))
 
 -- ---- loops over the numbers below n
 
@@ -201,26 +201,26 @@ unfolding from
 from_more k zero = ap (λ (m : ℕ). m ∷ []) (sym (add-zero k))
 from_more k (suc n) = ap (λ (l : List ℕ). k ∷ l) (from_more (suc k) n ∙ ap (λ (m : ℕ). from (suc k) n ++ (m ∷ [])) (suc-add k n ∙ sym (add-suc k n)))
 
-upTo-more : (n : ℕ) → up_to (n + 1) ≡ up_to n ++ (n ∷ [])
-upTo-more n = ap up_to (add-one n) ∙ from_more 0 n ∙ ap (λ (m : ℕ). up_to n ++ (m ∷ [])) (zero-add n)
+up_to-more : (n : ℕ) → up_to (n + 1) ≡ up_to n ++ (n ∷ [])
+up_to-more n = ap up_to (add-one n) ∙ from_more 0 n ∙ ap (λ (m : ℕ). up_to n ++ (m ∷ [])) (zero-add n)
 
-pub all-upTo-turn : (p : ℕ → Bool) (i : ℕ) (flag t : Bool) → flag ≡ all p (up_to i) → t ≡ p i → (flag && t) ≡ all p (up_to (i + 1))
+pub all-up_to-turn : (p : ℕ → Bool) (i : ℕ) (flag t : Bool) → flag ≡ all p (up_to i) → t ≡ p i → (flag && t) ≡ all p (up_to (i + 1))
 unfolding all
-all-upTo-turn p i flag t e q =
-    rw (e, q, upTo-more i, all_append) (ap (λ (b : Bool). all p (up_to i) && b) (sym (and-true (p i))))
+all-up_to-turn p i flag t e q =
+    rw (e, q, up_to-more i, all_append) (ap (λ (b : Bool). all p (up_to i) && b) (sym (and-true (p i))))
 
-pub all-upTo-none : (p : ℕ → Bool) → true ≡ all p (up_to 0)
+pub all-up_to-none : (p : ℕ → Bool) → true ≡ all p (up_to 0)
 unfolding all from
-all-upTo-none p = refl
+all-up_to-none p = refl
 
-pub any-upTo-none : (p : ℕ → Bool) → false ≡ any p (up_to 0)
+pub any-up_to-none : (p : ℕ → Bool) → false ≡ any p (up_to 0)
 unfolding any from
-any-upTo-none p = refl
+any-up_to-none p = refl
 
-pub any-upTo-turn : (p : ℕ → Bool) (i : ℕ) (flag t : Bool) → flag ≡ any p (up_to i) → t ≡ p i → (flag || t) ≡ any p (up_to (i + 1))
+pub any-up_to-turn : (p : ℕ → Bool) (i : ℕ) (flag t : Bool) → flag ≡ any p (up_to i) → t ≡ p i → (flag || t) ≡ any p (up_to (i + 1))
 unfolding any
-any-upTo-turn p i flag t e q =
-    rw (e, q, upTo-more i, any_append) (ap (λ (b : Bool). any p (up_to i) || b) (sym (or-false (p i))))
+any-up_to-turn p i flag t e q =
+    rw (e, q, up_to-more i, any_append) (ap (λ (b : Bool). any p (up_to i) || b) (sym (or-false (p i))))
 
 -- ---- a loop that changes a list in place, one element a turn: f k is what it makes of the element at k
 
@@ -250,4 +250,4 @@ module _ {ℓ} {A : Type ℓ} (f : ℕ → A → A) (d : A) (xs : List A) where
       passed k l (no n) = get_or-set_other now i k v d n ∙ m.1 k (omega arith)
 
   pub mapped-all : (n i : ℕ) (now : List A) → length xs ≡ n → n ≤ i → Mapped i now → now ≡ map (λ k. f k (get_or xs k d)) (up_to n)
-  mapped-all n i now l h m = map-upTo (λ k. f k (get_or xs k d)) n d now (m.0 ∙ l) (λ k q. m.1 k (omega arith))
+  mapped-all n i now l h m = map-up_to (λ k. f k (get_or xs k d)) n d now (m.0 ∙ l) (λ k q. m.1 k (omega arith))

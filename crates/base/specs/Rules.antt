@@ -12,9 +12,9 @@ abbrev pub ◌⇒◌ : {A : Type 0} → Bool → A → Refusal A
 when ⇒ code = record { when = when; code = code }
 
 -- the code of the first rule that holds, and `otherwise` where none does
-unfoldable pub firstRule : {A : Type 0} → List (Refusal A) → A → A
-firstRule [] otherwise = otherwise
-firstRule (r ∷ rs) otherwise = elim r.when [ true ↦ r.code | false ↦ firstRule rs otherwise ]
+unfoldable pub first_rule : {A : Type 0} → List (Refusal A) → A → A
+first_rule [] otherwise = otherwise
+first_rule (r ∷ rs) otherwise = elim r.when [ true ↦ r.code | false ↦ first_rule rs otherwise ]
 
 -- the codes, by their names in source documents 000 and 001; -38, which they do not name, is Linux's ENOSYS
 abbrev pub EPERM : ℤ

@@ -7,21 +7,21 @@ use Rattle.machine_state.specs.declared.CommRegion.{CommRegion}
 use Rattle.machine_state.specs.declared.Machine.{Machine}
 use Rattle.machine_state.specs.declared.Stepped.{Stepped}
 use Rattle.machine_state.specs.declared.Waiting.{Waiting}
-use Rattle.machine_state.specs.Machine.{maxCells}
-use Rattle.rules.specs.State.{bootCpus, commAt, cpuAt}
-use Rattle.rules.specs.Effects.{counted, callCounter}
-use Rattle.rules.specs.Calls.{cellCreate, cellDestroy, createCall}
-use Rattle.cpu_table.specs.CpuTable.{cpuIndex}
+use Rattle.machine_state.specs.Machine.{max_cells}
+use Rattle.rules.specs.State.{boot_cpu_set, comm_at, cpu_at}
+use Rattle.rules.specs.Effects.{counted, call_counter}
+use Rattle.rules.specs.Calls.{cell_create, cell_destroy, create_call}
+use Rattle.cpu_table.specs.CpuTable.{cpu_index}
 use Rattle.comms.specs.declared.CellSets.{CellSets}
-use Rattle.comms.specs.Comms.{cellIndex}
+use Rattle.comms.specs.Comms.{cell_index}
 use Rattle.comms.specs.Sets.{Sets}
 use Rattle.asking.specs.declared.Move.{Move}
 use Rattle.asking.specs.Moves.{moved, WithSets}
-use Rattle.create_rules.specs.Rows.{createCode}
+use Rattle.create_rules.specs.Rows.{create_code}
 
 -- the parts of a machine that are no tables
 pub record Parts (started : ℕ) (main other : Pool) (pages live : ℕ) (call : Waiting) (m : Machine) : Type 0 where
-  pub boot : bootCpus m ≡ started
+  pub boot : boot_cpu_set m ≡ started
   pub pool : m.system.pool ≡ main
   pub remap : m.system.remap ≡ other
   pub used : m.pool_used ≡ pages
@@ -33,12 +33,12 @@ pub record Parts (started : ℕ) (main other : Pool) (pages live : ℕ) (call : 
 pub record CallParts (boot : ℕ) (pool remap : Pool) (pages live : ℕ) (cells : CellSets) (call : Waiting) (cpu code a1 : ℕ) (bytes : List ℕ) (p : Cpu)
     (w : CommRegion) (q : Cpu) (found : ℤ) (m : Machine) : Type 0 where
   pub parts : Parts boot pool remap pages live call m
-  pub sets : leb code cellDestroy ≡ true → Sets cells m
-  pub table : length m.comms ≡ maxCells
-  pub caller : cpuAt m cpu ≡ p
-  pub words : commAt m (cellIndex a1) ≡ w
-  pub asked : cpuAt m (cpuIndex a1) ≡ q
-  pub scan : code ≡ cellCreate → found ≡ createCode cpu bytes (counted callCounter cpu m)
+  pub sets : leb code cell_destroy ≡ true → Sets cells m
+  pub table : length m.comms ≡ max_cells
+  pub caller : cpu_at m cpu ≡ p
+  pub words : comm_at m (cell_index a1) ≡ w
+  pub asked : cpu_at m (cpu_index a1) ≡ q
+  pub scan : code ≡ cell_create → found ≡ create_code cpu bytes (counted call_counter cpu m)
 
 -- those of a call that looks at the sets of cells, already counted
 pub record Waits (live : ℕ) (cells : CellSets) (waiting : Waiting) (m : Machine) : Type 0 where
@@ -48,10 +48,10 @@ pub record Waits (live : ℕ) (cells : CellSets) (waiting : Waiting) (m : Machin
 
 -- a Create's move is right
 pub record Creates (has : Machine → Type 0) (caller : ℕ) (bytes : List ℕ) (mv : Move) : Type 0 where
-  pub moves : (m : Machine) → has m → moved mv (cell_of bytes) m ≡ createCall caller bytes m
-  pub place : mv.cell < maxCells
+  pub moves : (m : Machine) → has m → moved mv (cell_of bytes) m ≡ create_call caller bytes m
+  pub place : mv.cell < max_cells
 
 -- a call's move is right at the machine where it is counted
 pub record Calls (has : Machine → Type 0) (cpu : ℕ) (bytes : List ℕ) (rule : Machine → Stepped) (mv : Move) : Type 0 where
-  pub moves : (m : Machine) → has m → moved mv (cell_of bytes) (counted callCounter cpu m) ≡ rule (counted callCounter cpu m)
-  pub place : mv.cell < maxCells
+  pub moves : (m : Machine) → has m → moved mv (cell_of bytes) (counted call_counter cpu m) ≡ rule (counted call_counter cpu m)
+  pub place : mv.cell < max_cells

@@ -4,11 +4,11 @@ ghost use Rattle.std.specs.Prelude.{◌≡◌, List, ℕ, ◌<◌, ◌≤◌, �
 ghost use Rattle.machine_state.specs.declared.Waiting.{Waiting};
 ghost use Rattle.machine_state.specs.declared.Machine.{Machine};
 ghost use Rattle.rules.specs.State.{answered};
-ghost use Rattle.rules.specs.Effects.{counted, callCounter};
-ghost use Rattle.rules.specs.Calls.{targetCall, callByCode, call as call-of};
+ghost use Rattle.rules.specs.Effects.{counted, call_counter};
+ghost use Rattle.rules.specs.Calls.{target_call, call_by_code, call as call_of};
 ghost use Rattle.comms.specs.declared.CellSets.{CellSets};
 ghost use Rattle.asking.specs.Moves.{Moves};
-ghost use Rattle.create_rules.specs.Rows.{createCode};
+ghost use Rattle.create_rules.specs.Rows.{create_code};
 ghost use Rattle.calls.specs.Calls.{CallParts, Waits, Creates, Calls};
 
 use asking::Move;
@@ -22,7 +22,7 @@ use system_record::Pool;
 
 // Start, Set Loadable and Destroy.
 fn target_call(live_ids: u16, cells: CellSets, waiting: Waiting, kind: CallKind, id: u64) -> Move
-    ensures { Moves (Waits live_ids cells waiting) (targetCall kind id) result }
+    ensures { Moves (Waits live_ids cells waiting) (target_call kind id) result }
 {
     if id == 0 {
         return asking::stay(Answer::Code(EINVAL), waiting);
@@ -39,7 +39,7 @@ fn target_call(live_ids: u16, cells: CellSets, waiting: Waiting, kind: CallKind,
 
 // Create, which `scan` refuses or lets through.
 fn create_call(live_ids: u16, cells: CellSets, waiting: Waiting, scan: i32) -> Move
-    ensures { (caller : ℕ) (bytes : List ℕ) → Creates (λ m. Waits live_ids cells waiting m × (scan ≡ createCode caller bytes m)) caller bytes result }
+    ensures { (caller : ℕ) (bytes : List ℕ) → Creates (λ m. Waits live_ids cells waiting m × (scan ≡ create_code caller bytes m)) caller bytes result }
 {
     if scan == 0 {
         let id = id_set::free_id(live_ids);
@@ -64,7 +64,7 @@ fn query(
     a2: u64,
 ) -> Answer
     requires { (4 < code) × (code ≤ 7) }
-    ensures { (cells : CellSets) (waiting : Waiting) (bytes : List ℕ) (scan : ℤ) (m : Machine) → CallParts boot_cpus pool remap pool_used live_ids cells waiting cpu code a1 bytes p w q scan m → answered result (counted callCounter cpu m) ≡ callByCode cpu code a1 a2 bytes (counted callCounter cpu m) }
+    ensures { (cells : CellSets) (waiting : Waiting) (bytes : List ℕ) (scan : ℤ) (m : Machine) → CallParts boot_cpus pool remap pool_used live_ids cells waiting cpu code a1 bytes p w q scan m → answered result (counted call_counter cpu m) ≡ call_by_code cpu code a1 a2 bytes (counted call_counter cpu m) }
 {
     if code == HYPERVISOR_GET_INFO {
         return queries::get_info(pool, remap, pool_used, live_ids, a1);
@@ -94,7 +94,7 @@ fn by_code(
     a2: u64,
 ) -> Move
     requires { code ≤ 7 }
-    ensures { (bytes : List ℕ) → Calls (CallParts boot_cpus pool remap pool_used live_ids cells waiting cpu code a1 bytes p w q scan) cpu bytes (callByCode cpu code a1 a2 bytes) result }
+    ensures { (bytes : List ℕ) → Calls (CallParts boot_cpus pool remap pool_used live_ids cells waiting cpu code a1 bytes p w q scan) cpu bytes (call_by_code cpu code a1 a2 bytes) result }
 {
     if code == HYPERVISOR_DISABLE {
         return asking::ask(cells, CallKind::Disable, 0, 0);
@@ -136,7 +136,7 @@ pub fn call(
     a1: u64,
     a2: u64,
 ) -> Move
-    ensures { (bytes : List ℕ) → Calls (CallParts boot_cpus pool remap pool_used live_ids cells waiting cpu code a1 bytes p w q scan) cpu bytes (call-of cpu code a1 a2 bytes) result }
+    ensures { (bytes : List ℕ) → Calls (CallParts boot_cpus pool remap pool_used live_ids cells waiting cpu code a1 bytes p w q scan) cpu bytes (call_of cpu code a1 a2 bytes) result }
 {
     if CPU_GET_INFO < code {
         return asking::stay(Answer::Code(ENOSYS), waiting);

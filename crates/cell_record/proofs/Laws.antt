@@ -3,10 +3,10 @@ use mathlib.Core.Path.{◌≡◌}
 use mathlib.Core.List.{List}
 use Prim.Native.Nat.{ℕ, min}
 use Rattle.fields.specs.Fields.{u16}
-use Rattle.region_table.specs.Tables.{maxRegions, regionsOf}
+use Rattle.region_table.specs.Tables.{max_regions, regions_of}
 use Rattle.region_table.proofs.Laws.{table-regions}
-use Rattle.cell_record.specs.CellRecord.{cell_of, cellRegions}
+use Rattle.cell_record.specs.CellRecord.{cell_of, cell_regions}
 
-pub record-regions : (r : List ℕ) → cellRegions (cell_of r) ≡ regionsOf 56 (min (u16 48 r) maxRegions) r
+pub record-regions : (r : List ℕ) → cell_regions (cell_of r) ≡ regions_of 56 (min (u16 48 r) max_regions) r
 unfolding cell_of
-record-regions r = table-regions 56 r maxRegions (u16 48 r)
+record-regions r = table-regions 56 r max_regions (u16 48 r)

@@ -2,10 +2,10 @@
 // asked in `cell_rules`.
 ghost use Rattle.std.specs.Prelude.{◌≡◌, min};
 ghost use Rattle.base.specs.Lists.{any};
-ghost use Rattle.fields.specs.Fields.{u16 as u16-of};
+ghost use Rattle.fields.specs.Fields.{u16 as u16_of};
 ghost use Rattle.regions.specs.Regions.{comm};
-ghost use Rattle.region_table.specs.Tables.{maxRegions, regionAt};
-ghost use Rattle.cell_record.specs.CellRecord.{cell_of, cellRegions};
+ghost use Rattle.region_table.specs.Tables.{max_regions, region_at};
+ghost use Rattle.cell_record.specs.CellRecord.{cell_of, cell_regions};
 
 use region_table::MAX_REGIONS;
 use regions::MemRegion;
@@ -54,7 +54,7 @@ pub fn cell_of(s: &[u8]) -> CellConfig
 
 // How many regions of the record there are: those that its count names, as many as a table holds.
 pub fn region_count(s: &[u8]) -> u16
-    ensures { result ≡ min (u16-of 48 s.now) maxRegions }
+    ensures { result ≡ min (u16_of 48 s.now) max_regions }
 {
     let n = fields::u16_at(s, 48);
     if (n as usize) < MAX_REGIONS {
@@ -80,14 +80,14 @@ fn cell_table(s: &[u8]) -> [MemRegion; MAX_REGIONS]
 
 // Region `i` of the record.
 pub fn region(s: &[u8], i: u16) -> MemRegion
-    ensures { result ≡ regionAt 56 s.now i }
+    ensures { result ≡ region_at 56 s.now i }
 {
     region_table::region_at(s, 56 + 32 * i as usize)
 }
 
 // Whether some region of the record is a communication region.
 pub fn has_comm(s: &[u8]) -> bool
-    ensures { result ≡ any comm (cellRegions (cell_of s.now)) }
+    ensures { result ≡ any comm (cell_regions (cell_of s.now)) }
 {
     let n = region_count(s);
     let mut found = false;

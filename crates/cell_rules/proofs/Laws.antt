@@ -4,10 +4,10 @@ use mathlib.Core.Bool.{Bool, true, false, not, ◌&&◌, ◌||◌}
 use Rattle.base.specs.Lists.{any}
 use Rattle.base.proofs.Tests.{holds, fails}
 use Rattle.regions.specs.declared.MemRegion.{MemRegion}
-use Rattle.regions.specs.Regions.{placed, flagsOk, commOk, clearOf, loadable, shared, insidePhys}
+use Rattle.regions.specs.Regions.{placed, flags_ok, comm_ok, clear_of, loadable, shared, inside_phys}
 use Rattle.system_record.specs.declared.SystemConfig.{SystemConfig}
-use Rattle.system_record.specs.SystemRecord.{bootRegions}
-use Rattle.cell_record.specs.CellRecord.{regionRules}
+use Rattle.system_record.specs.SystemRecord.{boot_regions}
+use Rattle.cell_record.specs.CellRecord.{region_rules}
 
 anywhere : (ok tied lies : Bool) → not tied ≡ true → ok ≡ (ok && (not tied || lies))
 anywhere true true lies e = absurd (holds e)
@@ -18,15 +18,15 @@ inside : (ok tied lies : Bool) → not tied ≡ false → (ok && lies) ≡ (ok &
 inside ok true lies e = refl
 inside ok false lies e = absurd (fails e tt)
 
-module _ (boot : SystemConfig) (r : MemRegion) (p f c k l s : Bool) (placed-is : p ≡ placed r) (flags-are : f ≡ flagsOk r) (comm-is : c ≡ commOk r)
-    (clear-is : k ≡ clearOf boot.hypervisor.start boot.hypervisor.size r) (loadable-is : l ≡ loadable r) (shared-is : s ≡ shared r) where
+module _ (boot : SystemConfig) (r : MemRegion) (p f c k l s : Bool) (placed-is : p ≡ placed r) (flags-are : f ≡ flags_ok r) (comm-is : c ≡ comm_ok r)
+    (clear-is : k ≡ clear_of boot.hypervisor.start boot.hypervisor.size r) (loadable-is : l ≡ loadable r) (shared-is : s ≡ shared r) where
   -- one that is neither loadable nor shared
-  pub region-free : not (l || s) ≡ true → (p && f && c && k) ≡ regionRules boot r
+  pub region-free : not (l || s) ≡ true → (p && f && c && k) ≡ region_rules boot r
   region-free n =
-      anywhere (p && f && c && k) (l || s) (any (insidePhys r) (bootRegions boot)) n
-      ∙ (λ i. placed-is i && flags-are i && comm-is i && clear-is i && (not (loadable-is i || shared-is i) || any (insidePhys r) (bootRegions boot)))
+      anywhere (p && f && c && k) (l || s) (any (inside_phys r) (boot_regions boot)) n
+      ∙ (λ i. placed-is i && flags-are i && comm-is i && clear-is i && (not (loadable-is i || shared-is i) || any (inside_phys r) (boot_regions boot)))
 
-  pub region-tied : (lies : Bool) → lies ≡ any (insidePhys r) (bootRegions boot) → not (l || s) ≡ false → (p && f && c && k && lies) ≡ regionRules boot r
+  pub region-tied : (lies : Bool) → lies ≡ any (inside_phys r) (boot_regions boot) → not (l || s) ≡ false → (p && f && c && k && lies) ≡ region_rules boot r
   region-tied lies e n =
       inside (p && f && c && k) (l || s) lies n
       ∙ (λ i. placed-is i && flags-are i && comm-is i && clear-is i && (not (loadable-is i || shared-is i) || e i))

@@ -2,7 +2,7 @@
 // bytes.
 ghost use Rattle.std.specs.Prelude.{◌≡◌, ◌&&◌};
 ghost use Rattle.base.specs.Lists.{all};
-ghost use Rattle.cell_record.specs.CellRecord.{cell_of, versionOk, limitOk, cellForm, cellRegions, regionRules, cellRegionOk, cellValid, cellAnswer, readCell};
+ghost use Rattle.cell_record.specs.CellRecord.{cell_of, version_ok, limit_ok, cell_form, cell_regions, region_rules, cell_region_ok, cell_valid, cell_answer, read_cell};
 
 use base::{E2BIG, EINVAL};
 use cell_record::CellRead;
@@ -15,7 +15,7 @@ pub const MAX_LENGTH: usize = 56 + 32 * MAX_REGIONS;
 
 // Whether the record's version is one that is read.
 fn version_ok(s: &[u8]) -> bool
-    ensures { result ≡ versionOk s.now }
+    ensures { result ≡ version_ok s.now }
 {
     let version = fields::u16_at(s, 4);
     (version == 1) | (version == 2)
@@ -23,14 +23,14 @@ fn version_ok(s: &[u8]) -> bool
 
 // Whether the reply limit's bytes are zero where the version has none.
 fn limit_ok(s: &[u8]) -> bool
-    ensures { result ≡ limitOk s.now }
+    ensures { result ≡ limit_ok s.now }
 {
     (fields::u16_at(s, 4) == 2) | fields::is_zero(fields::part(s, 50, 2))
 }
 
 // Whether the record has the form of a cell record.
 pub fn cell_form(s: &[u8]) -> bool
-    ensures { result ≡ cellForm s.now }
+    ensures { result ≡ cell_form s.now }
 {
     let n = fields::u16_at(s, 48) as usize;
     fields::has_mark(s, b"TSC")
@@ -45,7 +45,7 @@ pub fn cell_form(s: &[u8]) -> bool
 
 // Whether a cell's region keeps the rules of its place and its flags in the booted system.
 fn region_rules(boot: SystemConfig, r: MemRegion) -> bool
-    ensures { result ≡ regionRules boot r }
+    ensures { result ≡ region_rules boot r }
 {
     let hypervisor = boot.hypervisor;
     let ok = regions::is_placed(r)
@@ -61,14 +61,14 @@ fn region_rules(boot: SystemConfig, r: MemRegion) -> bool
 
 // Whether a cell's region keeps its rules in the booted system.
 pub fn cell_region_ok(boot: SystemConfig, r: MemRegion) -> bool
-    ensures { result ≡ cellRegionOk boot r }
+    ensures { result ≡ cell_region_ok boot r }
 {
     region_rules(boot, r) & !regions::is_shared_and_executable(r)
 }
 
 // Whether the record's regions each keep a cell region's rules.
 fn regions_ok(boot: SystemConfig, s: &[u8]) -> bool
-    ensures { result ≡ all (cellRegionOk boot) (cellRegions (cell_of s.now)) }
+    ensures { result ≡ all (cell_region_ok boot) (cell_regions (cell_of s.now)) }
 {
     let n = cell_record::region_count(s);
     let mut ok = true;
@@ -82,7 +82,7 @@ fn regions_ok(boot: SystemConfig, s: &[u8]) -> bool
 
 // Whether the record's values keep every rule on them in the booted system.
 pub fn cell_valid(boot: SystemConfig, s: &[u8]) -> bool
-    ensures { result ≡ cellValid boot (cell_of s.now) }
+    ensures { result ≡ cell_valid boot (cell_of s.now) }
 {
     let name = cell_record::name(s);
     fields::is_name(&name)
@@ -94,7 +94,7 @@ pub fn cell_valid(boot: SystemConfig, s: &[u8]) -> bool
 
 // Whether the record has its form and keeps every rule in the booted system.
 pub fn is_valid(boot: SystemConfig, s: &[u8]) -> bool
-    ensures { result ≡ (cellForm s.now && cellValid boot (cell_of s.now)) }
+    ensures { result ≡ (cell_form s.now && cell_valid boot (cell_of s.now)) }
 {
     if !cell_form(s) {
         return false;
@@ -104,7 +104,7 @@ pub fn is_valid(boot: SystemConfig, s: &[u8]) -> bool
 
 // What the record itself makes Create answer.
 fn cell_answer(boot: SystemConfig, s: &[u8]) -> i32
-    ensures { result ≡ cellAnswer boot s.now }
+    ensures { result ≡ cell_answer boot s.now }
 {
     if MAX_LENGTH < s.len() {
         return E2BIG;
@@ -118,7 +118,7 @@ fn cell_answer(boot: SystemConfig, s: &[u8]) -> i32
 // Reads a cell record in the booted system: the answer that it gives, 0 where it keeps every rule,
 // and the values as they stand.
 pub fn read_cell(boot: SystemConfig, s: &[u8]) -> CellRead
-    ensures { result ≡ readCell boot s.now }
+    ensures { result ≡ read_cell boot s.now }
 {
     let config = cell_record::cell_of(s);
     let code = cell_answer(boot, s);

@@ -11,26 +11,26 @@ use lib.Seq.{get_or-take, get_or-drop}
 use borrow.Author.Tests.{lt-ltb, le-ltb, ltb-true}
 use Rattle.base.specs.Lists.{part}
 use Rattle.base.proofs.Tests.{le-or-lt, is_true, holds, and_right}
-use Rattle.cpu_set.specs.CpuSet.{count, countBelow, member}
-use Rattle.fields.specs.Fields.{littleEndian, field, u32}
+use Rattle.cpu_set.specs.CpuSet.{count, count_below, member}
+use Rattle.fields.specs.Fields.{little_endian, field, u32}
 use Rattle.machine_state.specs.declared.CommRegion.{CommRegion}
 use Rattle.machine_state.specs.declared.Machine.{Machine}
-use Rattle.rules.specs.State.{hasId, live, commAt}
-use Rattle.rules.specs.CommRegion.{bytes, layout, shownIn, seesRegion, regionWord, regionByte}
+use Rattle.rules.specs.State.{has_id, live, comm_at}
+use Rattle.rules.specs.CommRegion.{bytes, layout, shown_in, sees_region, region_word, region_byte}
 use Rattle.machine_state.specs.declared.RegionWord.{RegionWord}
 use Rattle.machine_state.specs.declared.RegionWord.TheVariants as RegionWord
 use Rattle.machine_state.specs.declared.RegionByte.{RegionByte}
 use Rattle.machine_state.specs.declared.RegionByte.TheVariants as RegionByte
 
 -- a number is what its bytes say
-pub number-bytes : (size n : ℕ) → n < 256 ^ size → n ≡ littleEndian (bytes size n)
-unfolding littleEndian bytes
+pub number-bytes : (size n : ℕ) → n < 256 ^ size → n ≡ little_endian (bytes size n)
+unfolding little_endian bytes
 number-bytes zero n h = omega arith
 number-bytes (suc size) n h = rw (← number-bytes size (n / 256) (omega arith)) (omega arith)
 
 -- the word of two fields of two bytes
-pub number-halves : (a b : ℕ) → a < 256 ^ 2 → b < 256 ^ 2 → a + 0x10000 * b ≡ littleEndian (bytes 2 a ++ bytes 2 b)
-unfolding littleEndian bytes
+pub number-halves : (a b : ℕ) → a < 256 ^ 2 → b < 256 ^ 2 → a + 0x10000 * b ≡ little_endian (bytes 2 a ++ bytes 2 b)
+unfolding little_endian bytes
 number-halves a b f g =
     let e = number-bytes 2 a f in
     let h = number-bytes 2 b g in
@@ -42,24 +42,24 @@ unfolding layout bytes
 layout-length c timer cpus = refl
 
 -- the word whose bytes are known
-pub word-is : (l bs : List ℕ) {word k n : ℕ} → word ≡ k → part (4 * k) 4 l ≡ bs → n ≡ littleEndian bs → n ≡ u32 (4 * word) l
+pub word-is : (l bs : List ℕ) {word k n : ℕ} → word ≡ k → part (4 * k) 4 l ≡ bs → n ≡ little_endian bs → n ≡ u32 (4 * word) l
 unfolding field
-word-is l bs e p q = q ∙ sym (rw e (ap littleEndian p))
+word-is l bs e p q = q ∙ sym (rw e (ap little_endian p))
 
 -- bytes are those of the number that they say
 abbrev low : List ℕ → List ℕ
 low xs = map (λ x. x % 256) xs
 
-bytes-number : (xs : List ℕ) → bytes (length xs) (littleEndian (low xs)) ≡ low xs
-unfolding littleEndian bytes
+bytes-number : (xs : List ℕ) → bytes (length xs) (little_endian (low xs)) ≡ low xs
+unfolding little_endian bytes
 bytes-number [] = refl
 bytes-number (x ∷ xs) =
-    let rest = littleEndian (low xs) in
+    let rest = little_endian (low xs) in
     let here : (x % 256 + 256 * rest) % 256 ≡ x % 256 = omega arith in
     let above : (x % 256 + 256 * rest) / 256 ≡ rest = omega arith in
     λ i. here i ∷ (ap (bytes (length xs)) above ∙ bytes-number xs) i
 
-four_bytes : (x y z w : ℕ) → bytes 4 (littleEndian (x % 256 ∷ y % 256 ∷ z % 256 ∷ w % 256 ∷ [])) ≡ x % 256 ∷ y % 256 ∷ z % 256 ∷ w % 256 ∷ []
+four_bytes : (x y z w : ℕ) → bytes 4 (little_endian (x % 256 ∷ y % 256 ∷ z % 256 ∷ w % 256 ∷ [])) ≡ x % 256 ∷ y % 256 ∷ z % 256 ∷ w % 256 ∷ []
 four_bytes x y z w = bytes-number (x ∷ y ∷ z ∷ w ∷ [])
 
 -- the bytes of a word of the region
@@ -108,52 +108,52 @@ abbrev pub byte_of : RegionWord → ℕ → RegionByte
 byte_of RegionWord.NoWord k = RegionByte.NoByte
 byte_of (RegionWord.Word word) k = RegionByte.Byte (get_or (bytes 4 word) k 0)
 
-region-byte : (m : Machine) (id offset : ℕ) → byte_of (regionWord id (offset / 4) m) (offset % 4) ≡ regionByte id offset m
-unfolding regionWord regionByte
+region-byte : (m : Machine) (id offset : ℕ) → byte_of (region_word id (offset / 4) m) (offset % 4) ≡ region_byte id offset m
+unfolding region_word region_byte
 region-byte m id offset =
-    by-test (seesRegion id m) (ltb (offset / 4) 5) (ltb offset 20) (same_end offset) (λ e. byte_at _ _ _ offset (ltb-true offset 20 e))
+    by-test (sees_region id m) (ltb (offset / 4) 5) (ltb offset 20) (same_end offset) (λ e. byte_at _ _ _ offset (ltb-true offset 20 e))
   where
-    by-test : (s w t : Bool) → w ≡ t → (t ≡ true → get_or (bytes 4 (u32 (4 * (offset / 4)) (shownIn id m))) (offset % 4) 0 ≡ get_or (shownIn id m) offset 0)
-        → byte_of (elim (s && w) as (λ x. RegionWord) [ true ↦ RegionWord.Word (u32 (4 * (offset / 4)) (shownIn id m)) | false ↦ RegionWord.NoWord ]) (offset % 4)
-        ≡ elim (s && t) as (λ x. RegionByte) [ true ↦ RegionByte.Byte (get_or (shownIn id m) offset 0) | false ↦ RegionByte.NoByte ]
+    by-test : (s w t : Bool) → w ≡ t → (t ≡ true → get_or (bytes 4 (u32 (4 * (offset / 4)) (shown_in id m))) (offset % 4) 0 ≡ get_or (shown_in id m) offset 0)
+        → byte_of (elim (s && w) as (λ x. RegionWord) [ true ↦ RegionWord.Word (u32 (4 * (offset / 4)) (shown_in id m)) | false ↦ RegionWord.NoWord ]) (offset % 4)
+        ≡ elim (s && t) as (λ x. RegionByte) [ true ↦ RegionByte.Byte (get_or (shown_in id m) offset 0) | false ↦ RegionByte.NoByte ]
     by-test false w t p e = refl
     by-test true false false p e = refl
     by-test true true true p e = ap RegionByte.Byte (e refl)
     by-test true true false p e = cc
     by-test true false true p e = cc
 
-pub byte-of-word : (m : Machine) (id offset : ℕ) (w : RegionWord) → w ≡ regionWord id (offset / 4) m → byte_of w (offset % 4) ≡ regionByte id offset m
+pub byte-of-word : (m : Machine) (id offset : ℕ) (w : RegionWord) → w ≡ region_word id (offset / 4) m → byte_of w (offset % 4) ≡ region_byte id offset m
 byte-of-word m id offset w e = ap (λ (v : RegionWord). byte_of v (offset % 4)) e ∙ region-byte m id offset
 
 -- no cell has an ID from 16 up
-pub not_seen : (m : Machine) (id : ℕ) → 16 ≤ id → seesRegion id m ≡ false
-unfolding seesRegion hasId
-not_seen m id h = rw (le-ltb id 16 h, hasId) (by-test (not (eqb id 0)))
+pub not_seen : (m : Machine) (id : ℕ) → 16 ≤ id → sees_region id m ≡ false
+unfolding sees_region has_id
+not_seen m id h = rw (le-ltb id 16 h, has_id) (by-test (not (eqb id 0)))
   where
-    by-test : (t : Bool) → (t && false && (commAt m id).mapped) ≡ false
+    by-test : (t : Bool) → (t && false && (comm_at m id).mapped) ≡ false
     by-test true = refl
     by-test false = refl
 
 -- a word, by the test that the code makes
-module _ (m : Machine) (id word : ℕ) (seen : Bool) (known : seen ≡ seesRegion id m) where
-  pub no_word : (seen && ltb word 5) ≡ false → RegionWord.NoWord ≡ regionWord id word m
-  unfolding regionWord
-  no_word e = rw (← known, e, regionWord)
+module _ (m : Machine) (id word : ℕ) (seen : Bool) (known : seen ≡ sees_region id m) where
+  pub no_word : (seen && ltb word 5) ≡ false → RegionWord.NoWord ≡ region_word id word m
+  unfolding region_word
+  no_word e = rw (← known, e, region_word)
 
-  pub a_word : (seen && ltb word 5) ≡ true → RegionWord.Word (u32 (4 * word) (shownIn id m)) ≡ regionWord id word m
-  unfolding regionWord
-  a_word e = rw (← known, e, regionWord)
+  pub a_word : (seen && ltb word 5) ≡ true → RegionWord.Word (u32 (4 * word) (shown_in id m)) ≡ region_word id word m
+  unfolding region_word
+  a_word e = rw (← known, e, region_word)
 
 pub in-region : (seen : Bool) (word : ℕ) → (seen && ltb word 5) ≡ true → word < 5
 in-region seen word e = ltb-true word 5 (is_true (ltb word 5) (and_right seen (ltb word 5) (holds e)))
 
 -- how many CPUs there may be
-count-below : (n : ℕ) (p : ℕ → Bool) → countBelow n p ≤ n
-unfolding countBelow
+count-below : (n : ℕ) (p : ℕ → Bool) → count_below n p ≤ n
+unfolding count_below
 count-below zero p = omega arith
 count-below (suc n) p = by-test (p n) (count-below n p)
   where
-    by-test : (t : Bool) → countBelow n p ≤ n → elim t as (λ x. ℕ) [ true ↦ suc (countBelow n p) | false ↦ countBelow n p ] ≤ suc n
+    by-test : (t : Bool) → count_below n p ≤ n → elim t as (λ x. ℕ) [ true ↦ suc (count_below n p) | false ↦ count_below n p ] ≤ suc n
     by-test true h = omega arith
     by-test false h = omega arith
 

@@ -3,8 +3,8 @@ ghost use Rattle.std.specs.Prelude.{◌≡◌, ◌*◌, ◌<◌, get_or};
 ghost use Rattle.cpu_set.specs.CpuSet.{count};
 ghost use Rattle.fields.specs.Fields.{u32};
 ghost use Rattle.machine_state.specs.declared.Machine.{Machine};
-ghost use Rattle.rules.specs.State.{commAt};
-ghost use Rattle.rules.specs.CommRegion.{bytes, layout, seesRegion, regionWord, regionByte};
+ghost use Rattle.rules.specs.State.{comm_at};
+ghost use Rattle.rules.specs.CommRegion.{bytes, layout, sees_region, region_word, region_byte};
 
 use machine_state::{CommRegion, MAX_CELLS, Machine, RegionByte, RegionWord};
 
@@ -31,7 +31,7 @@ fn word_of(c: CommRegion, timer: u16, cpus: u64, word: u64) -> u32
 
 // Whether cell `id`, whose words are `c`, sees a region: it is live, is not root, and has one.
 fn sees_region(live_ids: u16, c: CommRegion, id: u64) -> bool
-    ensures { (m : Machine) → m.live_ids ≡ live_ids → commAt m id ≡ c → result ≡ seesRegion id m }
+    ensures { (m : Machine) → m.live_ids ≡ live_ids → comm_at m id ≡ c → result ≡ sees_region id m }
 {
     !(id == 0) & id_set::is_live(live_ids, id) & c.mapped
 }
@@ -39,7 +39,7 @@ fn sees_region(live_ids: u16, c: CommRegion, id: u64) -> bool
 // Word `word` of cell `id`'s region. None for root, for a cell that is not live or has no
 // region, and from word 5 on.
 pub fn region_word(m: Machine, id: u64, word: u64) -> RegionWord
-    ensures { result ≡ regionWord id word m }
+    ensures { result ≡ region_word id word m }
 {
     let i = id as usize;
     if MAX_CELLS <= i {
@@ -63,7 +63,7 @@ fn byte_of(word: u32, k: u64) -> u8
 // The byte at an offset of cell `id`'s region. None where `region_word` has none, and from
 // byte 20 on.
 pub fn region_byte(m: Machine, id: u64, offset: u64) -> RegionByte
-    ensures { result ≡ regionByte id offset m }
+    ensures { result ≡ region_byte id offset m }
 {
     match region_word(m, id, offset / 4) {
         RegionWord::NoWord => RegionByte::NoByte,

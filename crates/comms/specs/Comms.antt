@@ -2,9 +2,9 @@
 use Rattle.std.specs.Prelude.{◌≡◌, Bool, true, false, not, ℕ, ◌<◌, ltb, eqb}
 use Rattle.machine_state.specs.declared.CommRegion.{CommRegion}
 use Rattle.machine_state.specs.declared.Machine.{Machine}
-use Rattle.machine_state.specs.Machine.{maxCells}
-use Rattle.rules.specs.State.{commAt, withComm}
-use Rattle.rules.specs.Effects.{storeWord}
+use Rattle.machine_state.specs.Machine.{max_cells}
+use Rattle.rules.specs.State.{comm_at, with_comm}
+use Rattle.rules.specs.Effects.{store_word}
 use Rattle.rules.specs.Asking.{message}
 use Rattle.comms.specs.declared.WordsChange.{WordsChange}
 use Rattle.comms.specs.declared.WordsChange.TheVariants as Words
@@ -13,12 +13,12 @@ use Rattle.comms.specs.declared.Whom.TheVariants.{Everyone, Nobody, Only, Everyo
 
 unfoldable pub words_of : WordsChange → CommRegion → CommRegion
 words_of Words.Keep c = c
-words_of (Words.Store word value) c = storeWord word value c
+words_of (Words.Store word value) c = store_word word value c
 words_of (Words.Message code) c = message code c
 
 -- the machine with the words of one cell changed
-unfoldable pub wordsAt : ℕ → WordsChange → Machine → Machine
-wordsAt cell how m = withComm cell (words_of how (commAt m cell)) m
+unfoldable pub words_at : ℕ → WordsChange → Machine → Machine
+words_at cell how m = with_comm cell (words_of how (comm_at m cell)) m
 
 -- the cells that a search looks at
 unfoldable pub among : Whom → ℕ → Bool
@@ -33,5 +33,5 @@ pub record Index (place size r : ℕ) : Type 0 where
   pub inside : r < size
 
 -- a cell's place in the tables; 0 where they have none for its number
-unfoldable pub cellIndex : ℕ → ℕ
-cellIndex id = elim (ltb id maxCells) [ true ↦ id | false ↦ 0 ]
+unfoldable pub cell_index : ℕ → ℕ
+cell_index id = elim (ltb id max_cells) [ true ↦ id | false ↦ 0 ]

@@ -2,13 +2,13 @@
 // all cells.
 ghost use Rattle.std.specs.Prelude.{◌≡◌, true, ◌^◌, ◌<◌};
 ghost use Rattle.machine_state.specs.declared.Machine.{Machine};
-ghost use Rattle.machine_state.specs.Machine.{commIn};
-ghost use Rattle.rules.specs.State.{idsWhere, isFinal, commAt, active};
-ghost use Rattle.rules.specs.Create.{otherCellLocked};
-ghost use Rattle.rules.specs.Effects.{storeWord};
-ghost use Rattle.rules.specs.Asking.{message as message-of, mayBeMessaged, nextToMessage, isHeard, consents as consents-of};
-ghost use Rattle.comms.specs.Comms.{Index, cellIndex, words_of, among as among_of};
-ghost use Rattle.comms.specs.Sets.{hasLocked, addWhere, setsWithout};
+ghost use Rattle.machine_state.specs.Machine.{comm_in};
+ghost use Rattle.rules.specs.State.{ids_where, is_final, comm_at, active};
+ghost use Rattle.rules.specs.Create.{other_cell_locked};
+ghost use Rattle.rules.specs.Effects.{store_word};
+ghost use Rattle.rules.specs.Asking.{message as message_of, may_be_messaged, next_to_message, is_heard, consents as consents_of};
+ghost use Rattle.comms.specs.Comms.{Index, cell_index, words_of, among as among_of};
+ghost use Rattle.comms.specs.Sets.{has_locked, add_where, sets_without};
 
 use machine_state::{CommRegion, FAILED, MAX_CELLS, REQUEST_APPROVED, RUNNING_LOCKED, SHUT_DOWN};
 
@@ -38,21 +38,21 @@ pub struct CellSets {
 
 // The place of cell `id` in the tables; 0 where it has none there.
 pub fn cell_index(id: usize) -> usize
-    ensures { Index (cellIndex id) 16 result }
+    ensures { Index (cell_index id) 16 result }
 {
     if id < MAX_CELLS { id } else { 0 }
 }
 
 // Whether a state is final: shut down or failed.
 pub fn is_final(state: u32) -> bool
-    ensures { result ≡ isFinal state }
+    ensures { result ≡ is_final state }
 {
     (state == SHUT_DOWN) | (state == FAILED)
 }
 
 // The words at a place; all zero past the table's end.
 pub fn words_at(comms: [CommRegion; MAX_CELLS], id: usize) -> CommRegion
-    ensures { result ≡ commIn comms id }
+    ensures { result ≡ comm_in comms id }
 {
     if id < MAX_CELLS {
         comms[id]
@@ -75,7 +75,7 @@ fn is_among(whom: Whom, id: usize) -> bool
 
 // Whether cell `id`, whose words are `c`, is active.
 fn is_active(live_ids: u16, id: usize, c: CommRegion) -> bool
-    ensures { (m : Machine) → m.live_ids ≡ live_ids → commAt m id ≡ c → result ≡ active m id }
+    ensures { (m : Machine) → m.live_ids ≡ live_ids → comm_at m id ≡ c → result ≡ active m id }
 {
     !(id == 0) & id_set::is_live(live_ids, id as u64) & !is_final(c.cell_state)
 }
@@ -83,14 +83,14 @@ fn is_active(live_ids: u16, id: usize, c: CommRegion) -> bool
 // A set of IDs below `id`, with `id` in it where `is_in`.
 fn add_where(is_in: bool, ids: u16, id: usize) -> u16
     requires { (id < 16) × (ids < 2 ^ id) }
-    ensures { result ≡ addWhere is_in ids id }
+    ensures { result ≡ add_where is_in ids id }
 {
     if is_in { ids + (1 << id) } else { ids }
 }
 
 // The IDs of the cells that may be messaged; looked for only where `wanted`, else 0.
 pub fn messageable(wanted: bool, live_ids: u16, comms: [CommRegion; MAX_CELLS]) -> u16
-    ensures { wanted ≡ true → (m : Machine) → m.live_ids ≡ live_ids → m.comms ≡ comms → result ≡ idsWhere (mayBeMessaged m) }
+    ensures { wanted ≡ true → (m : Machine) → m.live_ids ≡ live_ids → m.comms ≡ comms → result ≡ ids_where (may_be_messaged m) }
 {
     if !wanted {
         return 0;
@@ -107,7 +107,7 @@ pub fn messageable(wanted: bool, live_ids: u16, comms: [CommRegion; MAX_CELLS]) 
 
 // The IDs of the cells that have locked the configuration; looked for only where `wanted`, else 0.
 pub fn locked(wanted: bool, live_ids: u16, comms: [CommRegion; MAX_CELLS]) -> u16
-    ensures { wanted ≡ true → (m : Machine) → m.live_ids ≡ live_ids → m.comms ≡ comms → result ≡ idsWhere (hasLocked m) }
+    ensures { wanted ≡ true → (m : Machine) → m.live_ids ≡ live_ids → m.comms ≡ comms → result ≡ ids_where (has_locked m) }
 {
     if !wanted {
         return 0;
@@ -125,7 +125,7 @@ pub fn locked(wanted: bool, live_ids: u16, comms: [CommRegion; MAX_CELLS]) -> u1
 
 // The next cell of `whom` after `after` that may be messaged, or 16.
 pub fn next_cell(messageable: u16, whom: Whom, after: usize) -> usize
-    ensures { (m : Machine) → messageable ≡ idsWhere (mayBeMessaged m) → result ≡ nextToMessage (among_of whom) after m }
+    ensures { (m : Machine) → messageable ≡ ids_where (may_be_messaged m) → result ≡ next_to_message (among_of whom) after m }
 {
     let mut found = MAX_CELLS;
     let mut i = MAX_CELLS;
@@ -139,7 +139,7 @@ pub fn next_cell(messageable: u16, whom: Whom, after: usize) -> usize
 
 // Whether an active cell other than `except` has locked the configuration.
 pub fn is_locked_but(locked: u16, except: usize) -> bool
-    ensures { (m : Machine) → locked ≡ idsWhere (hasLocked m) → result ≡ otherCellLocked except m }
+    ensures { (m : Machine) → locked ≡ ids_where (has_locked m) → result ≡ other_cell_locked except m }
 {
     let mut found = false;
     let mut i = MAX_CELLS;
@@ -152,7 +152,7 @@ pub fn is_locked_but(locked: u16, except: usize) -> bool
 
 // The sets without cell `id`.
 pub fn without_cell(cells: CellSets, id: usize) -> CellSets
-    ensures { result ≡ setsWithout id cells }
+    ensures { result ≡ sets_without id cells }
 {
     CellSets {
         messageable: id_set::drop_id(cells.messageable, id),
@@ -162,7 +162,7 @@ pub fn without_cell(cells: CellSets, id: usize) -> CellSets
 
 // The words after a message to the cell: the reply is cleared first.
 fn message(c: CommRegion, code: u32) -> CommRegion
-    ensures { result ≡ message-of code c }
+    ensures { result ≡ message_of code c }
 {
     let mut next = c;
     next.reply_from_cell = 0;
@@ -172,7 +172,7 @@ fn message(c: CommRegion, code: u32) -> CommRegion
 
 // The words after a store to word 0, 1 or 2.
 fn store_word(c: CommRegion, word: u64, value: u32) -> CommRegion
-    ensures { result ≡ storeWord word value c }
+    ensures { result ≡ store_word word value c }
 {
     let mut next = c;
     if word == 0 {
@@ -200,14 +200,14 @@ pub fn change_words(c: CommRegion, how: WordsChange) -> CommRegion
 
 // Whether the cell has replied or is in a final state.
 pub fn is_heard(c: CommRegion) -> bool
-    ensures { result ≡ isHeard c }
+    ensures { result ≡ is_heard c }
 {
     !(c.reply_from_cell == 0) | is_final(c.cell_state)
 }
 
 // Whether a heard cell consents to a shutdown request.
 pub fn consents(c: CommRegion) -> bool
-    ensures { result ≡ consents-of c }
+    ensures { result ≡ consents_of c }
 {
     is_final(c.cell_state) | (c.reply_from_cell == REQUEST_APPROVED)
 }

@@ -21,20 +21,20 @@ use Rattle.machine_state.specs.declared.Waiting.{Waiting}
 use Rattle.machine_state.specs.declared.Waiting.TheVariants.{NoCall, Pending}
 use Rattle.machine_state.specs.declared.Machine.{Machine}
 use Rattle.machine_state.specs.declared.Stepped.{Stepped}
-use Rattle.rules.specs.State.{rootId, live, answered}
-use Rattle.rules.specs.Answers.{isUnobeyed}
+use Rattle.rules.specs.State.{root_id, live, answered}
+use Rattle.rules.specs.Answers.{is_unobeyed}
 use Rattle.rules.specs.Effects.{effect, disabled}
-use Rattle.rules.specs.Create.{freeId}
-use Rattle.rules.specs.Asking.{asks, asking, telling, waitFor, finished, ask, poll, cutsOff, heardAt, stillWaits, pollCell}
+use Rattle.rules.specs.Create.{free_id}
+use Rattle.rules.specs.Asking.{asks, asking, telling, wait_for, finished, ask, poll, cuts_off, heard_at, still_waits, poll_cell}
 use Rattle.rules.specs.Calls.{call}
 use Rattle.rules.proofs.Cases.{ask-cases, call-cases, heard-cases, poll-asking, poll-telling}
-use Rattle.history.specs.History.{Created, hasCell}
+use Rattle.history.specs.History.{Created, has_cell}
 use Rattle.reached.proofs.Table.{Table, table_of, cut-same}
 use Rattle.reached.proofs.Sound.{IsCell, Fits}
-use Rattle.reached.proofs.Settled.{Settled, after-disable}
+use Rattle.reached.proofs.Settled.{Settled, after_disable}
 use Rattle.reached.proofs.Ready.{fits}
 use Rattle.reached.proofs.Walk.{WaitsWell}
-use Rattle.counters.proofs.Resets.{countersOf, Resets, resets_none, resets-waiting, resets-message, started-resets, loadable-resets, cut-resets, created-resets, destroyed-resets, disabled-resets}
+use Rattle.counters.proofs.Resets.{counters_of, Resets, resets_none, resets-waiting, resets-message, started-resets, loadable-resets, cut-resets, created-resets, destroyed-resets, disabled-resets}
 
 -- what an effect needs for that: a free ID for Create, a live cell for Destroy, and none left after Disable
 pub record Free (id : ℕ) (m : Machine) : Type 0 where
@@ -56,7 +56,7 @@ Can SetLoadable target m = Unit {0}
 Can Destroy target m = Lives target m
 
 module _ (k : ℕ) (below : k < 64) where
-  effect-resets : (kind : CallKind) (target : ℕ) (new : CellConfig) (m : Machine) → Can kind target m → Resets k (countersOf k m) m (effect kind target new m)
+  effect-resets : (kind : CallKind) (target : ℕ) (new : CellConfig) (m : Machine) → Can kind target m → Resets k (counters_of k m) m (effect kind target new m)
   unfolding effect
   effect-resets Disable target new m can = disabled-resets k below m can
   effect-resets Create target new m can = created-resets k below target new m can.low can.high can.free can.room
@@ -66,22 +66,22 @@ module _ (k : ℕ) (below : k < 64) where
 
   -- an answer that is no word, and counters that are reset where the CPU changes hands
   pub record Goes (m : Machine) (s : Stepped) : Type 0 where
-    pub heeded : isUnobeyed s.answer ≡ false
-    pub resets : Resets k (countersOf k m) m s.machine
+    pub heeded : is_unobeyed s.answer ≡ false
+    pub resets : Resets k (counters_of k m) m s.machine
 
-  pub waits-goes : (kind : CallKind) (stage : Stage) (code : ℕ) (m n : Machine) → Resets k (countersOf k m) m n → Goes m (waitFor kind stage code n)
-  unfolding waitFor answered isUnobeyed
+  pub waits-goes : (kind : CallKind) (stage : Stage) (code : ℕ) (m n : Machine) → Resets k (counters_of k m) m n → Goes m (wait_for kind stage code n)
+  unfolding wait_for answered is_unobeyed
   waits-goes kind stage code m n r = record {
     heeded = refl;
-    resets = resets-waiting k (countersOf k m) m _ (Pending kind stage) (resets-message k (countersOf k m) m n stage.cell _ r);
+    resets = resets-waiting k (counters_of k m) m _ (Pending kind stage) (resets-message k (counters_of k m) m n stage.cell _ r);
   }
 
-  pub ends-goes : (z : ℤ) (m n : Machine) → Resets k (countersOf k m) m n → Goes m (finished z n)
-  unfolding finished answered isUnobeyed
-  ends-goes z m n r = record { heeded = refl; resets = resets-waiting k (countersOf k m) m n NoCall r }
+  pub ends-goes : (z : ℤ) (m n : Machine) → Resets k (counters_of k m) m n → Goes m (finished z n)
+  unfolding finished answered is_unobeyed
+  ends-goes z m n r = record { heeded = refl; resets = resets-waiting k (counters_of k m) m n NoCall r }
 
-  still : (m : Machine) → Resets k (countersOf k m) m m
-  still m = resets_none k (countersOf k m) m m refl refl
+  still : (m : Machine) → Resets k (counters_of k m) m m
+  still m = resets_none k (counters_of k m) m m refl refl
 
   ask-goes : (kind : CallKind) (target after : ℕ) (new : CellConfig) (m : Machine) → Can kind target m → Goes m (ask kind target after new m)
   ask-goes kind target after new m can =
@@ -105,19 +105,19 @@ module _ (k : ℕ) (below : k < 64) where
     is-cell id c = record { low = let n : id ≡ 0 → ⊥ = c.other in omega arith; high = settled.sound.few id c.lives; lives = c.lives }
 
     none_left : (j : ℕ) → 1 ≤ j → live (disabled m) j ≡ false
-    unfolding hasCell any
-    none_left j l = (after-disable boot cs m settled).follows.lives j (λ q. omega arith)
+    unfolding has_cell any
+    none_left j l = (after_disable boot cs m settled).follows.lives j (λ q. omega arith)
 
     pub call-goes : (cpu code a1 a2 : ℕ) (bytes : List ℕ) → Goes m (call cpu code a1 a2 bytes m)
-    unfolding answered isUnobeyed
+    unfolding answered is_unobeyed
     call-goes cpu code a1 a2 bytes =
         call-cases (Goes m) cpu code a1 a2 bytes m
         (record {
           at_once = λ z. record { heeded = refl; resets = still m };
-          disables = λ e. ask-goes Disable rootId 0 (cell_of bytes) m none_left;
+          disables = λ e. ask-goes Disable root_id 0 (cell_of bytes) m none_left;
           creates = λ e may.
-              ask-goes Create (freeId m) 0 (cell_of bytes) m
-              (is_free (freeId m) (cell_of bytes) (fits m cpu bytes settled.sound may.valid may.free may.room));
+              ask-goes Create (free_id m) 0 (cell_of bytes) m
+              (is_free (free_id m) (cell_of bytes) (fits m cpu bytes settled.sound may.valid may.free may.room));
           starts = λ e may. ask-goes Start a1 0 (cell_of bytes) m tt;
           loads = λ e may. ask-goes SetLoadable a1 0 (cell_of bytes) m tt;
           destroys = λ e may.
@@ -126,9 +126,9 @@ module _ (k : ℕ) (below : k < 64) where
         })
 
   -- a poll: what follows on the machine where the cell is heard, of the machine before it
-  heard-resets : (stage : Stage) (m n : Machine) → Resets k (countersOf k (heardAt stage m)) (heardAt stage m) n → Resets k (countersOf k m) m n
+  heard-resets : (stage : Stage) (m n : Machine) → Resets k (counters_of k (heard_at stage m)) (heard_at stage m) n → Resets k (counters_of k m) m n
   heard-resets stage m n =
-      heard-cases (λ (h : Machine). Resets k (countersOf k h) h n → Resets k (countersOf k m) m n) stage m (λ r. r) (cut-resets k below stage.cell m n)
+      heard-cases (λ (h : Machine). Resets k (counters_of k h) h n → Resets k (counters_of k m) m n) stage m (λ r. r) (cut-resets k below stage.cell m n)
 
   -- the target of Destroy is the cell that it asked
   asked-can : (boot : SystemConfig) (cs : List Created) (m : Machine) → Settled boot cs (table_of m) → (kind : CallKind) (target cell : ℕ) → IsCell (table_of m) cell
@@ -142,14 +142,14 @@ module _ (k : ℕ) (below : k < 64) where
 
   module _ (boot : SystemConfig) (cs : List Created) (m : Machine) (settled : Settled boot cs (table_of m)) where
     PollGoes : Stepped → Type 0
-    PollGoes s = Resets k (countersOf k m) m s.machine
+    PollGoes s = Resets k (counters_of k m) m s.machine
 
-    unheard-goes : (kind : CallKind) (stage : Stage) → Resets k (countersOf k m) m (stillWaits kind stage m)
-    unfolding stillWaits
-    unheard-goes kind stage = resets-waiting k (countersOf k m) m m _ (still m)
+    unheard-goes : (kind : CallKind) (stage : Stage) → Resets k (counters_of k m) m (still_waits kind stage m)
+    unfolding still_waits
+    unheard-goes kind stage = resets-waiting k (counters_of k m) m m _ (still m)
 
-    pub poll-goes : (w : Waiting) (new : CellConfig) → WaitsWell (table_of m) w → Resets k (countersOf k m) m (poll w new m).machine
-    unfolding poll answered PollGoes cutsOff heardAt
+    pub poll-goes : (w : Waiting) (new : CellConfig) → WaitsWell (table_of m) w → Resets k (counters_of k m) m (poll w new m).machine
+    unfolding poll answered PollGoes cuts_off heard_at
     poll-goes NoCall new well = still m
     poll-goes (Pending kind stage) new well = by-stage stage.telling refl
       where
@@ -160,7 +160,7 @@ module _ (k : ℕ) (below : k < 64) where
         cell = stage.cell
 
         heard : Machine
-        heard = heardAt stage m
+        heard = heard_at stage m
 
         -- it has the same table
         table : table_of heard ≡ table_of m
@@ -169,7 +169,7 @@ module _ (k : ℕ) (below : k < 64) where
         from-heard : (s : Stepped) → Goes heard s → PollGoes s
         from-heard s g = heard-resets stage m s.machine g.resets
 
-        by-stage : (b : Bool) → stage.telling ≡ b → PollGoes (pollCell kind (record { target = target; cell = cell; telling = b; polls = stage.polls }) new m)
+        by-stage : (b : Bool) → stage.telling ≡ b → PollGoes (poll_cell kind (record { target = target; cell = cell; telling = b; polls = stage.polls }) new m)
         by-stage true e =
             poll-telling PollGoes kind target cell stage.polls new m (λ u. unheard-goes kind (telling target cell stage.polls))
             (λ c l. from-heard _ (waits-goes kind (telling target c 0) _ heard heard (still heard)))

@@ -15,8 +15,8 @@ use lib.Count.{ones, ones_in, ones_cat}
 use borrow.Author.Tests.{ltb-true, ltb-false}
 use Rattle.base.specs.Lists.{all, up_to}
 use Rattle.base.proofs.Tests.{equal-tests, fails, eq→eqb}
-use Rattle.base.proofs.Lists.{upTo-intro, upTo-elim, all_same}
-use Rattle.cpu_set.specs.CpuSet.{bit, member, number_of, setOf, countBelow, count, is_empty}
+use Rattle.base.proofs.Lists.{up_to-intro, up_to-elim, all_same}
+use Rattle.cpu_set.specs.CpuSet.{bit, member, number_of, set_of, count_below, count, is_empty}
 
 -- ---- a binary digit as a test: `bit k a` is `odd (a / 2 ^ k)`
 
@@ -64,14 +64,14 @@ low_bits (suc n) a p e =
     ∙ sym (number_step n p)
 
 -- as many digits are set as the test picks
-ones-number : (n : ℕ) (p : ℕ → Bool) → ones (number_of n p) ≡ countBelow n p
-unfolding number_of countBelow ones ones_in
+ones-number : (n : ℕ) (p : ℕ → Bool) → ones (number_of n p) ≡ count_below n p
+unfolding number_of count_below ones ones_in
 ones-number zero p = refl
 ones-number (suc n) p =
     ap ones (number_step n p) ∙ ones_cat n (digit (p n)) (number_of n p) (number_lt n p)
     ∙ ap (λ (m : ℕ). ones (digit (p n)) + m) (ones-number n p) ∙ go (p n)
   where
-    go : (b : Bool) → ones (digit b) + countBelow n p ≡ elim b [ true ↦ suc (countBelow n p) | false ↦ countBelow n p ]
+    go : (b : Bool) → ones (digit b) + count_below n p ≡ elim b [ true ↦ suc (count_below n p) | false ↦ count_below n p ]
     go true = omega arith
     go false = omega arith
 
@@ -98,17 +98,17 @@ member-bit k a h = go (ltb k 64) refl
     go false e = sym (ap odd (shr_high k a h (ltb-false k 64 e)))
 
 -- a number of 64 bits is the set of its members
-pub equals-setOf : (a : ℕ) → a < 2 ^ 64 → (p : ℕ → Bool) → ((k : ℕ) → k < 64 → member k a ≡ p k) → a ≡ setOf p
-equals-setOf a h p e = sym (mod-eq_of_lt h) ∙ low_bits 64 a p (λ k l. sym (member-bit k a h) ∙ e k l)
+pub equals-set_of : (a : ℕ) → a < 2 ^ 64 → (p : ℕ → Bool) → ((k : ℕ) → k < 64 → member k a ≡ p k) → a ≡ set_of p
+equals-set_of a h p e = sym (mod-eq_of_lt h) ∙ low_bits 64 a p (λ k l. sym (member-bit k a h) ∙ e k l)
 
 -- so two are equal where they have the same members
 pub same-members : (a b : ℕ) → a < 2 ^ 64 → b < 2 ^ 64 → eqb a b ≡ all (λ k. beq (member k a) (member k b)) (up_to 64)
 same-members a b h l =
     equal-tests (eqb a b) _
-    (λ t. upTo-intro (λ k. beq (member k a) (member k b)) 64 (λ k m. rw (eqb→eq a b t) (beq-refl (member k b))))
+    (λ t. up_to-intro (λ k. beq (member k a) (member k b)) 64 (λ k m. rw (eqb→eq a b t) (beq-refl (member k b))))
     (λ t. eq→eqb a b
-    (equals-setOf a h (λ k. member k b) (λ k m. beq-eq (member k a) (member k b) (upTo-elim _ 64 t k m))
-    ∙ sym (equals-setOf b l (λ k. member k b) (λ k m. refl))))
+    (equals-set_of a h (λ k. member k b) (λ k m. beq-eq (member k a) (member k b) (up_to-elim _ 64 t k m))
+    ∙ sym (equals-set_of b l (λ k. member k b) (λ k m. refl))))
   where
     beq-refl : (x : Bool) → T (beq x x)
     beq-refl true = tt
@@ -122,7 +122,7 @@ same-members a b h l =
 
 pub ones-count : (a : ℕ) → a < 2 ^ 64 → ones a ≡ count a
 unfolding count
-ones-count a h = ap ones (equals-setOf a h (λ k. member k a) (λ k l. refl)) ∙ ones-number 64 (λ k. member k a)
+ones-count a h = ap ones (equals-set_of a h (λ k. member k a) (λ k l. refl)) ∙ ones-number 64 (λ k. member k a)
 
 -- ---- a bit operation that does `f` on each digit does `f` on each member
 
@@ -167,9 +167,9 @@ member-shr k a n h =
 
 -- ---- the empty set
 
-pub zero-isEmpty : (a : ℕ) → a < 2 ^ 64 → eqb a 0 ≡ is_empty a
+pub zero-is_empty : (a : ℕ) → a < 2 ^ 64 → eqb a 0 ≡ is_empty a
 unfolding is_empty
-zero-isEmpty a h =
+zero-is_empty a h =
     same-members a 0 h (omega arith)
     ∙ all_same _ _ (λ k. ap (beq (member k a)) (member-bit k 0 (omega arith) ∙ ap odd (zero-div (2 ^ k))) ∙ go (member k a))
     (up_to 64)
@@ -201,21 +201,21 @@ bit-number n p k h =
     same-picks n (λ i. bit i (number_of n p)) p
     (sym (low_bits n (number_of n p) (λ i. bit i (number_of n p)) (λ i l. refl)) ∙ mod-eq_of_lt (number_lt n p)) k h
 
-pub member-setOf : (p : ℕ → Bool) (k : ℕ) → k < 64 → member k (setOf p) ≡ p k
+pub member-set_of : (p : ℕ → Bool) (k : ℕ) → k < 64 → member k (set_of p) ≡ p k
 unfolding member
-member-setOf p k h = go (ltb k 64) refl
+member-set_of p k h = go (ltb k 64) refl
   where
-    go : (b : Bool) → ltb k 64 ≡ b → elim b [ true ↦ bit k (setOf p) | false ↦ false ] ≡ p k
+    go : (b : Bool) → ltb k 64 ≡ b → elim b [ true ↦ bit k (set_of p) | false ↦ false ] ≡ p k
     go true e = bit-number 64 p k h
     go false e = absurd (omega (arith, ltb-false k 64 e))
 
 -- at most n numbers below n are picked; and a test that picks some of another's, and not all, picks fewer
-pub count-le : (n : ℕ) (p : ℕ → Bool) → countBelow n p ≤ n
-unfolding countBelow
+pub count-le : (n : ℕ) (p : ℕ → Bool) → count_below n p ≤ n
+unfolding count_below
 count-le zero p = omega arith
 count-le (suc n) p = go (p n) (count-le n p)
   where
-    go : (b : Bool) → countBelow n p ≤ n → elim b as (λ x. ℕ) [ true ↦ suc (countBelow n p) | false ↦ countBelow n p ] ≤ suc n
+    go : (b : Bool) → count_below n p ≤ n → elim b as (λ x. ℕ) [ true ↦ suc (count_below n p) | false ↦ count_below n p ] ≤ suc n
     go true h = omega arith
     go false h = omega arith
 
@@ -234,17 +234,17 @@ module _ (p q : ℕ → Bool) where
   step-lt a b false true i h = omega arith
   step-lt a b false false i h = h
 
-  some-le : (n : ℕ) → ((k : ℕ) → k < n → p k ≡ true → q k ≡ true) → countBelow n p ≤ countBelow n q
-  unfolding countBelow
+  some-le : (n : ℕ) → ((k : ℕ) → k < n → p k ≡ true → q k ≡ true) → count_below n p ≤ count_below n q
+  unfolding count_below
   some-le zero some = omega arith
   some-le (suc n) some = step-le _ _ (p n) (q n) (some n (omega arith)) (some-le n (λ i l. some i (omega arith)))
 
-  pub count_less : (n : ℕ) → ((k : ℕ) → k < n → p k ≡ true → q k ≡ true) → (k : ℕ) → k < n → p k ≡ false → q k ≡ true → countBelow n p < countBelow n q
-  unfolding countBelow
+  pub count_less : (n : ℕ) → ((k : ℕ) → k < n → p k ≡ true → q k ≡ true) → (k : ℕ) → k < n → p k ≡ false → q k ≡ true → count_below n p < count_below n q
+  unfolding count_below
   count_less zero some k h low high = absurd (omega arith)
   count_less (suc n) some k h low high =
       go (ℕ_discrete k n) (λ l. count_less n (λ i l. some i (omega arith)) k l low high)
     where
-      go : Dec (k ≡ n) → (k < n → countBelow n p < countBelow n q) → countBelow (suc n) p < countBelow (suc n) q
-      go (yes e) less = rw (sym (ap p e) ∙ low, sym (ap q e) ∙ high, countBelow) (omega (arith, some-le n (λ i l. some i (omega arith))))
+      go : Dec (k ≡ n) → (k < n → count_below n p < count_below n q) → count_below (suc n) p < count_below (suc n) q
+      go (yes e) less = rw (sym (ap p e) ∙ low, sym (ap q e) ∙ high, count_below) (omega (arith, some-le n (λ i l. some i (omega arith))))
       go (no e) less = step-lt _ _ (p n) (q n) (some n (omega arith)) (less (omega arith))

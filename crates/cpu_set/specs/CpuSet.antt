@@ -17,8 +17,8 @@ number_of zero p = 0
 number_of (suc n) p = elim (p n) [ true ↦ number_of n p + 2 ^ n | false ↦ number_of n p ]
 
 -- the set of the CPUs that the test picks
-abbrev pub setOf : (ℕ → Bool) → ℕ
-setOf p = number_of 64 p
+abbrev pub set_of : (ℕ → Bool) → ℕ
+set_of p = number_of 64 p
 
 -- every member of a is a member of b
 unfoldable pub subset : ℕ → ℕ → Bool
@@ -34,21 +34,21 @@ is_empty a = all (λ k. not (member k a)) (up_to 64)
 
 -- the members of a or of b: CPUs returned to root
 unfoldable pub union : ℕ → ℕ → ℕ
-union a b = setOf (λ k. member k a || member k b)
+union a b = set_of (λ k. member k a || member k b)
 
 -- the members of a that are not of b: CPUs taken from root
 unfoldable pub without : ℕ → ℕ → ℕ
-without a b = setOf (λ k. member k a && not (member k b))
+without a b = set_of (λ k. member k a && not (member k b))
 
 -- every member of a is below n
 unfoldable pub below : ℕ → ℕ → Bool
 below a n = all (λ k. not (member k a) || ltb k n) (up_to 64)
 
 -- how many numbers below n the test picks
-unfoldable pub countBelow : ℕ → (ℕ → Bool) → ℕ
-countBelow zero p = 0
-countBelow (suc n) p = elim (p n) [ true ↦ suc (countBelow n p) | false ↦ countBelow n p ]
+unfoldable pub count_below : ℕ → (ℕ → Bool) → ℕ
+count_below zero p = 0
+count_below (suc n) p = elim (p n) [ true ↦ suc (count_below n p) | false ↦ count_below n p ]
 
 -- how many CPUs are members
 unfoldable pub count : ℕ → ℕ
-count a = countBelow 64 (λ k. member k a)
+count a = count_below 64 (λ k. member k a)

@@ -1,6 +1,6 @@
 // CPU sets as u64 masks: CPU k is a member where bit k is set. No function shifts by 64.
 ghost use Rattle.std.specs.Prelude.{◌≡◌};
-ghost use Rattle.cpu_set.specs.CpuSet.{member, subset, meets, is_empty, union as union-of, without as without-of, below, count as count_of};
+ghost use Rattle.cpu_set.specs.CpuSet.{member, subset, meets, is_empty, union as union_of, without as without_of, below, count as count_of};
 
 // Whether CPU `cpu` is in the set; false for every number from 64 up.
 pub fn contains(set: u64, cpu: u64) -> bool
@@ -35,14 +35,14 @@ pub fn is_empty(a: u64) -> bool
 
 // The members of either set.
 pub fn union(a: u64, b: u64) -> u64
-    ensures { result ≡ union-of a b }
+    ensures { result ≡ union_of a b }
 {
     a | b
 }
 
 // The members of `a` that are not members of `b`.
 pub fn without(a: u64, b: u64) -> u64
-    ensures { result ≡ without-of a b }
+    ensures { result ≡ without_of a b }
 {
     a ^ (a & b)
 }

@@ -3,29 +3,29 @@ use Rattle.std.specs.Prelude.{◌≡◌, ℕ, ◌<◌, true, false, ◌≢◌, n
 use Rattle.cpu_set.specs.CpuSet.{member}
 use Rattle.machine_state.specs.declared.Cpu.{Cpu}
 use Rattle.machine_state.specs.declared.Machine.{Machine}
-use Rattle.machine_state.specs.Machine.{maxCpus}
-use Rattle.rules.specs.State.{cpuAt, withCpu}
-use Rattle.rules.specs.Effects.{countExit, failCpu, startCpu, stopCpu, givenTo}
+use Rattle.machine_state.specs.Machine.{max_cpus}
+use Rattle.rules.specs.State.{cpu_at, with_cpu}
+use Rattle.rules.specs.Effects.{count_exit, fail_cpu, start_cpu, stop_cpu, given_to}
 use Rattle.cpu_table.specs.declared.CpuChange.{CpuChange}
 use Rattle.cpu_table.specs.declared.CpuChange.TheVariants.{Keep, Count, Fail, Start, Stop, Give}
 
-unfoldable pub changeOf : CpuChange → Cpu → Cpu
-changeOf Keep p = p
-changeOf (Count own) p = countExit own p
-changeOf Fail p = failCpu p
-changeOf Start p = startCpu p
-changeOf Stop p = stopCpu p
-changeOf (Give cell stopped) p = givenTo cell stopped p
+unfoldable pub change_of : CpuChange → Cpu → Cpu
+change_of Keep p = p
+change_of (Count own) p = count_exit own p
+change_of Fail p = fail_cpu p
+change_of Start p = start_cpu p
+change_of Stop p = stop_cpu p
+change_of (Give cell stopped) p = given_to cell stopped p
 
 -- the machine with one CPU changed
 unfoldable pub touched : ℕ → CpuChange → Machine → Machine
-touched cpu how m = withCpu cpu (changeOf how (cpuAt m cpu)) m
+touched cpu how m = with_cpu cpu (change_of how (cpu_at m cpu)) m
 
 -- a CPU's place in the table; 0 where it has none for its number
-unfoldable pub cpuIndex : ℕ → ℕ
-cpuIndex cpu = elim (nat_lt cpu maxCpus) [ true ↦ cpu | false ↦ 0 ]
+unfoldable pub cpu_index : ℕ → ℕ
+cpu_index cpu = elim (nat_lt cpu max_cpus) [ true ↦ cpu | false ↦ 0 ]
 
 -- a place of the table, and of a set that is not empty a member
 pub record FirstCpu (cpus r : ℕ) : Type 0 where
-  pub inside : r < maxCpus
+  pub inside : r < max_cpus
   pub is : (cpus ≢ 0) → member r cpus ≡ true

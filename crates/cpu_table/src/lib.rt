@@ -1,9 +1,9 @@
 // The CPU table: exit counters, failed marks, and what an effect does to the CPUs of a set.
 ghost use Rattle.std.specs.Prelude.{◌≡◌, set as set_at};
-ghost use Rattle.machine_state.specs.Machine.{cpuIn};
-ghost use Rattle.rules.specs.Effects.{bump as bump-of, countExit, failCpu, startCpu, stopCpu, allFailed, changeIn, changeCpus};
+ghost use Rattle.machine_state.specs.Machine.{cpu_in};
+ghost use Rattle.rules.specs.Effects.{bump as bump_of, count_exit, fail_cpu, start_cpu, stop_cpu, all_failed, change_in, change_cpus};
 ghost use Rattle.comms.specs.Comms.{Index};
-ghost use Rattle.cpu_table.specs.CpuTable.{changeOf, cpuIndex, FirstCpu};
+ghost use Rattle.cpu_table.specs.CpuTable.{change_of, cpu_index, FirstCpu};
 
 use machine_state::{Cpu, MAX_CPUS};
 
@@ -24,7 +24,7 @@ pub const CALL_COUNTER: usize = 5;
 
 // The place of CPU `cpu` in the table; 0 where it has none there.
 pub fn cpu_index(cpu: u64) -> usize
-    ensures { Index (cpuIndex cpu) 64 result }
+    ensures { Index (cpu_index cpu) 64 result }
 {
     if cpu < MAX_CPUS as u64 {
         cpu as usize
@@ -35,7 +35,7 @@ pub fn cpu_index(cpu: u64) -> usize
 
 // The counters with one added to the one at `i`, modulo 2^32.
 fn bump(counters: [u32; 6], i: usize) -> [u32; 6]
-    ensures { result ≡ bump-of i counters }
+    ensures { result ≡ bump_of i counters }
 {
     let mut next = counters;
     if i < 6 {
@@ -46,7 +46,7 @@ fn bump(counters: [u32; 6], i: usize) -> [u32; 6]
 
 // The CPU with one more exit: the total, and the counter at `own`.
 fn count_exit(p: Cpu, own: usize) -> Cpu
-    ensures { result ≡ countExit own p }
+    ensures { result ≡ count_exit own p }
 {
     let before = p.counters;
     let counters = bump(bump(before, 0), own);
@@ -60,7 +60,7 @@ fn count_exit(p: Cpu, own: usize) -> Cpu
 
 // The CPU, failed.
 fn fail_cpu(p: Cpu) -> Cpu
-    ensures { result ≡ failCpu p }
+    ensures { result ≡ fail_cpu p }
 {
     let mut next = p;
     next.failed = true;
@@ -69,7 +69,7 @@ fn fail_cpu(p: Cpu) -> Cpu
 
 // The CPU, running and unfailed.
 fn start_cpu(p: Cpu) -> Cpu
-    ensures { result ≡ startCpu p }
+    ensures { result ≡ start_cpu p }
 {
     let mut next = p;
     next.stopped = false;
@@ -79,7 +79,7 @@ fn start_cpu(p: Cpu) -> Cpu
 
 // The CPU, stopped; its failed mark stays.
 fn stop_cpu(p: Cpu) -> Cpu
-    ensures { result ≡ stopCpu p }
+    ensures { result ≡ stop_cpu p }
 {
     let mut next = p;
     next.stopped = true;
@@ -88,7 +88,7 @@ fn stop_cpu(p: Cpu) -> Cpu
 
 // The CPU after a change.
 pub fn change_cpu(p: Cpu, how: CpuChange) -> Cpu
-    ensures { result ≡ changeOf how p }
+    ensures { result ≡ change_of how p }
 {
     match how {
         CpuChange::Keep => p,
@@ -102,7 +102,7 @@ pub fn change_cpu(p: Cpu, how: CpuChange) -> Cpu
 
 // CPU `k` after a change of the CPUs in `set`.
 fn change_in(set: u64, how: CpuChange, k: u64, p: Cpu) -> Cpu
-    ensures { result ≡ changeIn «set» (changeOf how) k p }
+    ensures { result ≡ change_in «set» (change_of how) k p }
 {
     if cpu_set::contains(set, k) {
         change_cpu(p, how)
@@ -113,7 +113,7 @@ fn change_in(set: u64, how: CpuChange, k: u64, p: Cpu) -> Cpu
 
 // The table after a change of the CPUs in `set`.
 pub fn change_cpus(set: u64, how: CpuChange, cpus: [Cpu; MAX_CPUS]) -> [Cpu; MAX_CPUS]
-    ensures { result ≡ changeCpus «set» (changeOf how) cpus }
+    ensures { result ≡ change_cpus «set» (change_of how) cpus }
 {
     let mut next = cpus;
     let mut i = 0;
@@ -133,7 +133,7 @@ pub fn first_cpu(set: u64) -> usize
 
 // Whether every CPU in `set` is failed once CPU `also` is.
 pub fn all_failed(set: u64, also: usize, cpus: [Cpu; MAX_CPUS]) -> bool
-    ensures { result ≡ allFailed «set» (set_at cpus also (failCpu (cpuIn cpus also))) }
+    ensures { result ≡ all_failed «set» (set_at cpus also (fail_cpu (cpu_in cpus also))) }
 {
     let mut ok = true;
     let mut i = 0;

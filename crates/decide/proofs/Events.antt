@@ -15,29 +15,29 @@ use Rattle.machine_state.specs.declared.Event.{Event}
 use Rattle.machine_state.specs.declared.Event.TheVariants.{Call, Store, Fault, Poll}
 use Rattle.machine_state.specs.declared.Machine.{Machine}
 use Rattle.machine_state.specs.declared.Waiting.{Waiting}
-use Rattle.machine_state.specs.Machine.{maxCpus}
-use Rattle.rules.specs.State.{commAt, cpuAt, answered}
-use Rattle.rules.specs.Effects.{counted, callCounter}
+use Rattle.machine_state.specs.Machine.{max_cpus}
+use Rattle.rules.specs.State.{comm_at, cpu_at, answered}
+use Rattle.rules.specs.Effects.{counted, call_counter}
 use Rattle.rules.specs.Asking.{poll}
-use Rattle.rules.specs.Calls.{cellCreate, call}
+use Rattle.rules.specs.Calls.{cell_create, call}
 use Rattle.rules.specs.Unobeyed.{unobeyed}
 use Rattle.rules.specs.Step.{obeyed, step}
 use Rattle.cpu_table.specs.declared.CpuChange.TheVariants as CpuChange
-use Rattle.cpu_table.specs.CpuTable.{changeOf, touched}
+use Rattle.cpu_table.specs.CpuTable.{change_of, touched}
 use Rattle.cpu_table.proofs.Laws.{cpu-inside}
 use Rattle.comms.specs.declared.CellSets.{CellSets}
-use Rattle.comms.specs.Comms.{cellIndex}
+use Rattle.comms.specs.Comms.{cell_index}
 use Rattle.asking.specs.declared.Move.{Move}
-use Rattle.asking.specs.Moves.{moved, cutOffAt}
+use Rattle.asking.specs.Moves.{moved, cut_off_at}
 use Rattle.polling.specs.declared.Polled.{Polled}
 use Rattle.polling.specs.Polls.{PollMoves, Polls}
 use Rattle.unobeyed.specs.declared.Admission.{Admission}
 use Rattle.unobeyed.specs.declared.Admission.TheVariants.{Admitted, Refused}
-use Rattle.unobeyed.specs.Admission.{cpuFor, askedFor, waitedCell, cellFor, Looks, admitted, Follows, Placed}
+use Rattle.unobeyed.specs.Admission.{cpu_for, asked_for, waited_cell, cell_for, Looks, admitted, Follows, Placed}
 use Rattle.calls.specs.Calls.{CallParts, Calls}
-use Rattle.scans.specs.Scan.{scanOf}
+use Rattle.scans.specs.Scan.{scan_of}
 use Rattle.decide.specs.declared.Decision.{Decision}
-use Rattle.decide.specs.Decide.{settled, Settles, eventLooks, AllParts, Faulty}
+use Rattle.decide.specs.Decide.{settled, Settles, event_looks, AllParts, Faulty}
 use Rattle.decide.proofs.Laws.{kept-cpu}
 
 -- the event that an arm knows
@@ -51,38 +51,38 @@ at-event {boot} {pool} {remap} {pages} {ids} {cells} {call} {p} {w} {q} {scan} {
 pub places : {e known : Event} (p : Cpu) → e ≡ known → Placed p e → Placed p known
 places p q h = subst (λ (x : Event). Placed p x) q h
 
-pub calls : {has one : Machine → Type 0} (cpu code a1 a2 : ℕ) (bytes : List ℕ) (mv : Move) → cpu < maxCpus → ((m : Machine) → has m → one m)
+pub calls : {has one : Machine → Type 0} (cpu code a1 a2 : ℕ) (bytes : List ℕ) (mv : Move) → cpu < max_cpus → ((m : Machine) → has m → one m)
     → Calls one cpu bytes (call cpu code a1 a2 bytes) mv
-    → Settles has (cell_of bytes) (obeyed (Call cpu code a1 a2) bytes) (record { cpu = cpu; touch = CpuChange.Count callCounter; cut = 16; moves = mv })
-unfolding settled cutOffAt obeyed touched changeOf counted
+    → Settles has (cell_of bytes) (obeyed (Call cpu code a1 a2) bytes) (record { cpu = cpu; touch = CpuChange.Count call_counter; cut = 16; moves = mv })
+unfolding settled cut_off_at obeyed touched change_of counted
 calls cpu code a1 a2 bytes mv h f r = record { settles = λ m p. r.moves m (f m p); cpu = h; cell = r.place }
 
 -- of a store: its CPU
-pub own-cpu : {p : Cpu} {w : CommRegion} (m : Machine) (cpu word value : ℕ) → cpu < maxCpus → Looks (Store cpu word value) p w m → cpuAt m cpu ≡ p
-unfolding cpuFor
-own-cpu m cpu word value h l = ap (cpuAt m) (sym (cpu-inside cpu h)) ∙ l.cpu
+pub own-cpu : {p : Cpu} {w : CommRegion} (m : Machine) (cpu word value : ℕ) → cpu < max_cpus → Looks (Store cpu word value) p w m → cpu_at m cpu ≡ p
+unfolding cpu_for
+own-cpu m cpu word value h l = ap (cpu_at m) (sym (cpu-inside cpu h)) ∙ l.cpu
 
 module _ {boot : ℕ} {pool remap : Pool} {pages ids : ℕ} {cells : CellSets} {call : Waiting} {bytes : List ℕ} {p : Cpu} {w : CommRegion} {q : Cpu}
     {scan : ℤ} (m : Machine) where
   -- of a call: what it shows, with its caller's CPU
-  pub call-parts : (cpu code a1 a2 : ℕ) → cpu < maxCpus → AllParts boot pool remap pages ids cells call (Call cpu code a1 a2) bytes p w q scan m
+  pub call-parts : (cpu code a1 a2 : ℕ) → cpu < max_cpus → AllParts boot pool remap pages ids cells call (Call cpu code a1 a2) bytes p w q scan m
       → CallParts boot pool remap pages ids cells call cpu code a1 bytes p w q scan m
-  unfolding cpuFor askedFor cellFor scanOf eventLooks
+  unfolding cpu_for asked_for cell_for scan_of event_looks
   call-parts cpu code a1 a2 h a = record {
     parts = a.parts;
     sets = a.sets;
     table = a.shows.looks.table;
-    caller = ap (cpuAt m) (sym (cpu-inside cpu h)) ∙ a.shows.looks.cpu;
+    caller = ap (cpu_at m) (sym (cpu-inside cpu h)) ∙ a.shows.looks.cpu;
     words = a.shows.looks.words;
     asked = a.shows.asked;
-    scan = λ e. rw (eq-eqb code cellCreate e, scanOf) at a.shows.scan;
+    scan = λ e. rw (eq-eqb code cell_create e, scan_of) at a.shows.scan;
   }
 
   -- of a fault: the CPU, and what the scan found
-  pub faulty : (cpu : ℕ) → cpu < maxCpus → AllParts boot pool remap pages ids cells call (Fault cpu) bytes p w q scan m → Faulty scan p call cpu m
-  unfolding cpuFor scanOf
+  pub faulty : (cpu : ℕ) → cpu < max_cpus → AllParts boot pool remap pages ids cells call (Fault cpu) bytes p w q scan m → Faulty scan p call cpu m
+  unfolding cpu_for scan_of
   faulty cpu h a = record {
-    own = ap (cpuAt m) (sym (cpu-inside cpu h)) ∙ a.shows.looks.cpu;
+    own = ap (cpu_at m) (sym (cpu-inside cpu h)) ∙ a.shows.looks.cpu;
     waits = a.parts.waits;
     size = a.shows.looks.table;
     scan = a.shows.scan;
@@ -90,12 +90,12 @@ module _ {boot : ℕ} {pool remap : Pool} {pages ids : ℕ} {cells : CellSets} {
 
   -- of a poll: the words of the cell waited for
   pub polled : AllParts boot pool remap pages ids cells call Poll bytes p w q scan m → Polls cells w call m
-  unfolding cellFor eventLooks
+  unfolding cell_for event_looks
   polled a = record {
     sets = a.sets;
     size = a.shows.looks.table;
     waits = a.parts.waits;
-    words = ap (λ (x : Waiting). commAt m (cellIndex (waitedCell x))) (sym a.parts.waits) ∙ a.shows.looks.words;
+    words = ap (λ (x : Waiting). comm_at m (cell_index (waited_cell x))) (sym a.parts.waits) ∙ a.shows.looks.words;
   }
 
 module _ {boot : ℕ} {pool remap : Pool} {pages ids : ℕ} {cells : CellSets} {call : Waiting} {p : Cpu} {w : CommRegion} {q : Cpu} {scan : ℤ} where
@@ -104,7 +104,7 @@ module _ {boot : ℕ} {pool remap : Pool} {pages ids : ℕ} {cells : CellSets} {
       (record { cpu = 0; touch = CpuChange.Keep; cut = done.cut; moves = done.moves })
   unfolding settled obeyed
   polls bytes done r = record {
-    settles = λ m h. ap (λ (n : Machine). moved done.moves (cell_of bytes) (cutOffAt done.cut n)) (kept-cpu 0 m) ∙ r.moves m (cell_of bytes) (polled m h)
+    settles = λ m h. ap (λ (n : Machine). moved done.moves (cell_of bytes) (cut_off_at done.cut n)) (kept-cpu 0 m) ∙ r.moves m (cell_of bytes) (polled m h)
         ∙ ap (λ (x : Waiting). poll x (cell_of bytes) m) (sym h.parts.waits);
     cpu = omega arith;
     cell = r.place;

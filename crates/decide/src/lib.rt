@@ -3,11 +3,11 @@
 ghost use Rattle.std.specs.Prelude.{◌≡◌, List, ℕ, ◌<◌, ◌≤◌};
 ghost use Rattle.cell_record.specs.declared.CellConfig.{CellConfig};
 ghost use Rattle.cell_record.specs.CellRecord.{cell_of};
-ghost use Rattle.rules.specs.State.{cpuAt, answered};
-ghost use Rattle.rules.specs.Effects.{counted, exitCounter, stored, faulted};
+ghost use Rattle.rules.specs.State.{cpu_at, answered};
+ghost use Rattle.rules.specs.Effects.{counted, exit_counter, stored, faulted};
 ghost use Rattle.rules.specs.Step.{obeyed};
 ghost use Rattle.unobeyed.specs.Admission.{Placed};
-ghost use Rattle.decide.specs.Decide.{Settles, Decides, eventLooks, Faulty, AllParts};
+ghost use Rattle.decide.specs.Decide.{Settles, Decides, event_looks, Faulty, AllParts};
 
 use asking::{Effect, Move};
 use comms::{CellSets, WordsChange};
@@ -43,7 +43,7 @@ fn leave(answer: Answer, waiting: Waiting) -> Decision
 // A store that is obeyed, on CPU `cpu`, which is `p`.
 fn store(p: Cpu, waiting: Waiting, cpu: u64, word: u64, value: u32) -> Decision
     requires { (cpu < 64) × (p.cell < 16) }
-    ensures { (new : CellConfig) → Settles (λ m. (cpuAt m cpu ≡ p) × (m.waiting ≡ waiting)) new (λ m. answered Answer.Done (stored cpu word value m)) result }
+    ensures { (new : CellConfig) → Settles (λ m. (cpu_at m cpu ≡ p) × (m.waiting ≡ waiting)) new (λ m. answered Answer.Done (stored cpu word value m)) result }
 {
     let moves = Move {
         answer: Answer::Done,
@@ -63,7 +63,7 @@ fn store(p: Cpu, waiting: Waiting, cpu: u64, word: u64, value: u32) -> Decision
 // An exit that is obeyed.
 fn exit(waiting: Waiting, cpu: u64, kind: u64) -> Decision
     requires { (cpu < 64) × (kind ≤ 3) }
-    ensures { (new : CellConfig) → Settles (λ m. m.waiting ≡ waiting) new (λ m. answered Answer.Done (counted (exitCounter kind) cpu m)) result }
+    ensures { (new : CellConfig) → Settles (λ m. m.waiting ≡ waiting) new (λ m. answered Answer.Done (counted (exit_counter kind) cpu m)) result }
 {
     Decision {
         cpu: cpu as usize,
@@ -153,7 +153,7 @@ fn obey(
 
 // Whether an event looks at the sets of cells; `w` are the words that matter to it.
 pub fn looks(e: Event, w: CommRegion, waiting: Waiting) -> bool
-    ensures { result ≡ eventLooks e w waiting }
+    ensures { result ≡ event_looks e w waiting }
 {
     match e {
         Event::Call(_, code, _, _) => code <= CELL_DESTROY,

@@ -1,6 +1,6 @@
 // Detection leaves: what a cell sees of the hypervisor when it executes the cpuid instruction.
 ghost use Rattle.std.specs.Prelude.{◌≡◌};
-ghost use Rattle.detection.specs.Detection.{cpuid as cpuid-of};
+ghost use Rattle.detection.specs.Detection.{cpuid as cpuid_of};
 
 // The four registers that an execution of cpuid leaves.
 #[derive(Drop)]
@@ -13,7 +13,7 @@ pub struct Leaf {
 
 // The registers of a leaf; `passed` are those of the processor itself.
 pub fn cpuid(leaf: u32, passed: Leaf) -> Leaf
-    ensures { result ≡ cpuid-of leaf passed }
+    ensures { result ≡ cpuid_of leaf passed }
 {
     if leaf == 1 {
         let mut marked = passed;

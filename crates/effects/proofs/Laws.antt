@@ -11,30 +11,30 @@ use Rattle.machine_state.specs.declared.Cell.{Cell}
 use Rattle.machine_state.specs.declared.CallKind.{CallKind}
 use Rattle.machine_state.specs.declared.CallKind.TheVariants.{Disable, Create, Start, SetLoadable, Destroy}
 use Rattle.machine_state.specs.declared.Machine.{Machine}
-use Rattle.machine_state.specs.Machine.{cellIn, pastCell, pastComm, maxCells}
-use Rattle.rules.specs.State.{cell_at, commAt, withPool, withIds, withRootCpus, withCell, withComm, withCpus}
-use Rattle.rules.specs.Effects.{poolCost, newComm, cpusChanged, cellCreated, inPhase, cellStarted, cellLoadable, cellDestroyed, effect}
-use Rattle.cpu_table.specs.CpuTable.{changeOf}
-use Rattle.comms.specs.Comms.{cellIndex}
+use Rattle.machine_state.specs.Machine.{cell_in, past_cell, past_comm, max_cells}
+use Rattle.rules.specs.State.{cell_at, comm_at, with_pool, with_ids, with_root_cpus, with_cell, with_comm, with_cpus}
+use Rattle.rules.specs.Effects.{pool_cost, new_comm, cpus_changed, cell_created, in_phase, cell_started, cell_loadable, cell_destroyed, effect}
+use Rattle.cpu_table.specs.CpuTable.{change_of}
+use Rattle.comms.specs.Comms.{cell_index}
 use Rattle.effects.specs.declared.Figures.{Figures}
 use Rattle.effects.specs.declared.Target.{Target}
 use Rattle.effects.specs.declared.CellChange.{CellChange}
 use Rattle.effects.specs.declared.CellChange.TheVariants as CellChange
 use Rattle.effects.specs.declared.Numbers.{Numbers}
-use Rattle.effects.specs.Parts.{isDisable, within, figuresOf, target_of, numbersAfter, kindChange, cellChange, changedCell, newWords, wordsAfter, partsStored, cpusAfter}
+use Rattle.effects.specs.Parts.{is_disable, within, figures_of, target_of, numbers_after, kind_change, cell_change, changed_cell, new_words, words_after, parts_stored, cpus_after}
 
 -- ---- a cell of the tables, or a number that is no cell's
 
 -- what is stored at a cell's place is stored at the cell
-at_place : {A : Type 0} (xs : List A) (d : A) (f : A → A) (id : ℕ) → length xs ≡ maxCells
-    → set xs (cellIndex id) (within id (f (get_or xs (cellIndex id) d)) (get_or xs (cellIndex id) d)) ≡ set xs id (f (get_or xs id d))
-unfolding within cellIndex
-at_place {A} xs d f id size = go (ltb id maxCells) refl
+at_place : {A : Type 0} (xs : List A) (d : A) (f : A → A) (id : ℕ) → length xs ≡ max_cells
+    → set xs (cell_index id) (within id (f (get_or xs (cell_index id) d)) (get_or xs (cell_index id) d)) ≡ set xs id (f (get_or xs id d))
+unfolding within cell_index
+at_place {A} xs d f id size = go (ltb id max_cells) refl
   where
-    past : ltb id maxCells ≡ false → length xs ≤ id
-    past e = let h = ltb-false id maxCells e in omega arith
+    past : ltb id max_cells ≡ false → length xs ≤ id
+    past e = let h = ltb-false id max_cells e in omega arith
 
-    go : (b : Bool) → ltb id maxCells ≡ b
+    go : (b : Bool) → ltb id max_cells ≡ b
         → set xs (elim b as (λ x. ℕ) [ true ↦ id | false ↦ 0 ])
         (elim b as (λ x. A) [
           | true ↦ f (get_or xs (elim b as (λ x. ℕ) [ true ↦ id | false ↦ 0 ]) d)
@@ -45,36 +45,36 @@ at_place {A} xs d f id size = go (ltb id maxCells) refl
     go false e = set-get_or xs 0 d ∙ sym (set_out xs id (f (get_or xs id d)) (past e))
 
 -- what a cell holds is what the cell at its place holds, and past the table's end nothing
-target_is : (cells : List Cell) (id : ℕ) → length cells ≡ maxCells
-    → target_of id (cellIn cells (cellIndex id)).cpus (cellIn cells (cellIndex id)).region_count
-    ≡ record { cpus = (cellIn cells id).cpus; region_count = (cellIn cells id).region_count }
-unfolding target_of within cellIndex
-target_is cells id size = go (ltb id maxCells) refl
+target_is : (cells : List Cell) (id : ℕ) → length cells ≡ max_cells
+    → target_of id (cell_in cells (cell_index id)).cpus (cell_in cells (cell_index id)).region_count
+    ≡ record { cpus = (cell_in cells id).cpus; region_count = (cell_in cells id).region_count }
+unfolding target_of within cell_index
+target_is cells id size = go (ltb id max_cells) refl
   where
-    past : ltb id maxCells ≡ false → length cells ≤ id
-    past e = let h = ltb-false id maxCells e in omega arith
+    past : ltb id max_cells ≡ false → length cells ≤ id
+    past e = let h = ltb-false id max_cells e in omega arith
 
-    go : (b : Bool) → ltb id maxCells ≡ b
+    go : (b : Bool) → ltb id max_cells ≡ b
         → ◌≡◌ {A = Target}
         (elim b as (λ x. Target) [
           | true ↦ record {
-            cpus = (cellIn cells (elim b as (λ x. ℕ) [ true ↦ id | false ↦ 0 ])).cpus;
-            region_count = (cellIn cells (elim b as (λ x. ℕ) [ true ↦ id | false ↦ 0 ])).region_count;
+            cpus = (cell_in cells (elim b as (λ x. ℕ) [ true ↦ id | false ↦ 0 ])).cpus;
+            region_count = (cell_in cells (elim b as (λ x. ℕ) [ true ↦ id | false ↦ 0 ])).region_count;
           }
           | false ↦ record { cpus = 0; region_count = 0 }
         ])
-        (record { cpus = (cellIn cells id).cpus; region_count = (cellIn cells id).region_count })
+        (record { cpus = (cell_in cells id).cpus; region_count = (cell_in cells id).region_count })
     go true e = refl
-    go false e = rw (get_or-eq_default cells pastCell (past e))
+    go false e = rw (get_or-eq_default cells past_cell (past e))
 
 -- a change at a cell's place
 change-within : (id : ℕ) (change : CellChange) (new : CellConfig) (c : Cell)
-    → changedCell (within id change CellChange.Keep) new c ≡ within id (changedCell change new c) c
-unfolding within changedCell
-change-within id change new c = go (ltb id maxCells)
+    → changed_cell (within id change CellChange.Keep) new c ≡ within id (changed_cell change new c) c
+unfolding within changed_cell
+change-within id change new c = go (ltb id max_cells)
   where
-    go : (b : Bool) → changedCell (elim b as (λ x. CellChange) [ true ↦ change | false ↦ CellChange.Keep ]) new c
-        ≡ elim b as (λ x. Cell) [ true ↦ changedCell change new c | false ↦ c ]
+    go : (b : Bool) → changed_cell (elim b as (λ x. CellChange) [ true ↦ change | false ↦ CellChange.Keep ]) new c
+        ≡ elim b as (λ x. Cell) [ true ↦ changed_cell change new c | false ↦ c ]
     go true = refl
     go false = refl
 
@@ -82,17 +82,17 @@ change-within id change new c = go (ltb id maxCells)
 
 module _ (kind : CallKind) (id : ℕ) (new : CellConfig) (m : Machine) where
   -- the numbers after an effect, at a machine
-  abbrev numbersAt : Numbers
-  numbersAt =
-      numbersAfter kind id (record { cpus = (cell_at m id).cpus; region_count = (cell_at m id).region_count }) (figuresOf new) m.pool_used m.live_ids m.root_cpus
+  abbrev numbers_at : Numbers
+  numbers_at =
+      numbers_after kind id (record { cpus = (cell_at m id).cpus; region_count = (cell_at m id).region_count }) (figures_of new) m.pool_used m.live_ids m.root_cpus
 
-  abbrev atCell : Machine
-  atCell =
-      partsStored numbersAt id (changedCell (kindChange kind) new (cell_at m id)) (wordsAfter kind (figuresOf new) (commAt m id)) (cpusAfter numbersAt m.cpus) m
+  abbrev at_cell : Machine
+  at_cell =
+      parts_stored numbers_at id (changed_cell (kind_change kind) new (cell_at m id)) (words_after kind (figures_of new) (comm_at m id)) (cpus_after numbers_at m.cpus) m
 
 -- each part is the rule's, by the kind of the call
-by_kind : (kind : CallKind) (id : ℕ) (new : CellConfig) (m : Machine) → isDisable kind ≡ false → atCell kind id new m ≡ effect kind id new m
-unfolding isDisable partsStored numbersAfter kindChange changedCell wordsAfter newWords figuresOf newComm changeOf effect cellCreated cellStarted cellLoadable cellDestroyed inPhase cpusChanged withPool withIds withRootCpus withCell withComm withCpus
+by_kind : (kind : CallKind) (id : ℕ) (new : CellConfig) (m : Machine) → is_disable kind ≡ false → at_cell kind id new m ≡ effect kind id new m
+unfolding is_disable parts_stored numbers_after kind_change changed_cell words_after new_words figures_of new_comm change_of effect cell_created cell_started cell_loadable cell_destroyed in_phase cpus_changed with_pool with_ids with_root_cpus with_cell with_comm with_cpus
 by_kind Disable id new m e = absurd (fails {b = true} e tt)
 by_kind Create id new m e = refl
 by_kind Start id new m e = refl
@@ -101,55 +101,55 @@ by_kind Destroy id new m e = refl
 
 module _ (kind : CallKind) (id place : ℕ) (new : CellConfig) (m : Machine) where
   -- what the code has of the numbers, the cell and the words, at the cell's place
-  abbrev pub numbersThere : Figures → Numbers
-  numbersThere f =
-      numbersAfter kind id (target_of id (cell_at m place).cpus (cell_at m place).region_count) f m.pool_used m.live_ids m.root_cpus
+  abbrev pub numbers_there : Figures → Numbers
+  numbers_there f =
+      numbers_after kind id (target_of id (cell_at m place).cpus (cell_at m place).region_count) f m.pool_used m.live_ids m.root_cpus
 
-  abbrev pub cellThere : Cell
-  cellThere = changedCell (cellChange kind id) new (cell_at m place)
+  abbrev pub cell_there : Cell
+  cell_there = changed_cell (cell_change kind id) new (cell_at m place)
 
-  abbrev pub wordsThere : Figures → CommRegion
-  wordsThere f = within id (wordsAfter kind f (commAt m place)) (commAt m place)
+  abbrev pub words_there : Figures → CommRegion
+  words_there f = within id (words_after kind f (comm_at m place)) (comm_at m place)
 
-  module _ (here : place ≡ cellIndex id) (cellTable : length m.cells ≡ maxCells) (commTable : length m.comms ≡ maxCells) where
-    numbers-are : numbersThere (figuresOf new) ≡ numbersAt kind id new m
+  module _ (here : place ≡ cell_index id) (cell_table : length m.cells ≡ max_cells) (comm_table : length m.comms ≡ max_cells) where
+    numbers-are : numbers_there (figures_of new) ≡ numbers_at kind id new m
     numbers-are =
-        ap (λ (t : Target). numbersAfter kind id t (figuresOf new) m.pool_used m.live_ids m.root_cpus)
-        (ap (λ (k : ℕ). target_of id (cell_at m k).cpus (cell_at m k).region_count) here ∙ target_is m.cells id cellTable)
+        ap (λ (t : Target). numbers_after kind id t (figures_of new) m.pool_used m.live_ids m.root_cpus)
+        (ap (λ (k : ℕ). target_of id (cell_at m k).cpus (cell_at m k).region_count) here ∙ target_is m.cells id cell_table)
 
-    cells_are : set m.cells place cellThere ≡ set m.cells id (changedCell (kindChange kind) new (cell_at m id))
-    unfolding cellChange
+    cells_are : set m.cells place cell_there ≡ set m.cells id (changed_cell (kind_change kind) new (cell_at m id))
+    unfolding cell_change
     cells_are =
-        ap (set m.cells place) (change-within id (kindChange kind) new (cell_at m place))
-        ∙ ap (λ (k : ℕ). set m.cells k (within id (changedCell (kindChange kind) new (cell_at m k)) (cell_at m k))) here
-        ∙ at_place m.cells pastCell (changedCell (kindChange kind) new) id cellTable
+        ap (set m.cells place) (change-within id (kind_change kind) new (cell_at m place))
+        ∙ ap (λ (k : ℕ). set m.cells k (within id (changed_cell (kind_change kind) new (cell_at m k)) (cell_at m k))) here
+        ∙ at_place m.cells past_cell (changed_cell (kind_change kind) new) id cell_table
 
-    words_are : set m.comms place (wordsThere (figuresOf new)) ≡ set m.comms id (wordsAfter kind (figuresOf new) (commAt m id))
+    words_are : set m.comms place (words_there (figures_of new)) ≡ set m.comms id (words_after kind (figures_of new) (comm_at m id))
     words_are =
-        ap (λ (k : ℕ). set m.comms k (within id (wordsAfter kind (figuresOf new) (commAt m k)) (commAt m k))) here
-        ∙ at_place m.comms pastComm (wordsAfter kind (figuresOf new)) id commTable
+        ap (λ (k : ℕ). set m.comms k (within id (words_after kind (figures_of new) (comm_at m k)) (comm_at m k))) here
+        ∙ at_place m.comms past_comm (words_after kind (figures_of new)) id comm_table
 
     -- the parts, stored at the cell's place, make the rule's machine
-    pub stored-is-effect : (f : Figures) (n : Numbers) (c : Cell) (w : CommRegion) (cpus : List Cpu) → isDisable kind ≡ false → f ≡ figuresOf new
-        → n ≡ numbersThere f → c ≡ cellThere → w ≡ wordsThere f → cpus ≡ cpusAfter n m.cpus
-        → partsStored n place c w cpus m ≡ effect kind id new m
-    unfolding partsStored
-    stored-is-effect f n c w cpus e isFigures isNumbers isCell isWords isCpus =
-        let numbers = isNumbers ∙ ap numbersThere isFigures ∙ numbers-are in
+    pub stored-is-effect : (f : Figures) (n : Numbers) (c : Cell) (w : CommRegion) (cpus : List Cpu) → is_disable kind ≡ false → f ≡ figures_of new
+        → n ≡ numbers_there f → c ≡ cell_there → w ≡ words_there f → cpus ≡ cpus_after n m.cpus
+        → parts_stored n place c w cpus m ≡ effect kind id new m
+    unfolding parts_stored
+    stored-is-effect f n c w cpus e is_figures is_numbers is_cell is_words is_cpus =
+        let numbers = is_numbers ∙ ap numbers_there is_figures ∙ numbers-are in
         (λ i. record {
           power = m.power;
           system = m.system;
           pool_used = (numbers i).pool_used;
           live_ids = (numbers i).live_ids;
           root_cpus = (numbers i).root_cpus;
-          cells = (ap (set m.cells place) isCell ∙ cells_are) i;
-          comms = (ap (set m.comms place) (isWords ∙ ap wordsThere isFigures) ∙ words_are) i;
-          cpus = (isCpus ∙ ap (λ (x : Numbers). cpusAfter x m.cpus) numbers) i;
+          cells = (ap (set m.cells place) is_cell ∙ cells_are) i;
+          comms = (ap (set m.comms place) (is_words ∙ ap words_there is_figures) ∙ words_are) i;
+          cpus = (is_cpus ∙ ap (λ (x : Numbers). cpus_after x m.cpus) numbers) i;
           waiting = m.waiting;
         })
         ∙ by_kind kind id new m e
 
 -- ---- the pool
 
-pub pool-grows : (used regions : ℕ) → (used + (regions % 2 ^ 32 + 2) % 2 ^ 32) % 2 ^ 32 ≡ (used + poolCost regions) % 2 ^ 32
+pub pool-grows : (used regions : ℕ) → (used + (regions % 2 ^ 32 + 2) % 2 ^ 32) % 2 ^ 32 ≡ (used + pool_cost regions) % 2 ^ 32
 pool-grows used regions = omega arith

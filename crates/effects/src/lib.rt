@@ -2,9 +2,9 @@
 // `apply`, for the entry of one event, and by the loop over a log.
 ghost use Rattle.std.specs.Prelude.{◌≡◌, ◌+◌, ◌-◌, ◌%◌, ◌^◌};
 ghost use Rattle.cell_record.specs.CellRecord.{cell_of};
-ghost use Rattle.rules.specs.Effects.{poolCost, newCell, withPhase, clearWords, withState};
+ghost use Rattle.rules.specs.Effects.{pool_cost, new_cell, with_phase, clear_words, with_state};
 ghost use Rattle.effects.specs.Applying.{rest_of, EffectPart, IsNext, TableSizes};
-ghost use Rattle.effects.specs.Parts.{isDisable, figuresOf, target_of, numbersAfter, within, kindChange, cellChange, newWords, wordsAfter};
+ghost use Rattle.effects.specs.Parts.{is_disable, figures_of, target_of, numbers_after, within, kind_change, cell_change, new_words, words_after};
 
 use asking::Effect;
 use cpu_table::CpuChange;
@@ -74,7 +74,7 @@ pub fn table_sizes(
 
 // Whether the effect is Disable's, which is about every cell.
 pub fn is_disable(kind: CallKind) -> bool
-    ensures { result ≡ isDisable kind }
+    ensures { result ≡ is_disable kind }
 {
     match kind {
         CallKind::Disable => true,
@@ -87,7 +87,7 @@ pub fn is_disable(kind: CallKind) -> bool
 
 // The figures of a record.
 pub fn figures_of(record: &[u8]) -> Figures
-    ensures { result ≡ figuresOf (cell_of «record».now) }
+    ensures { result ≡ figures_of (cell_of «record».now) }
 {
     Figures {
         cpus: fields::u64_at(record, 40),
@@ -113,7 +113,7 @@ fn target_of(id: usize, cpus: u64, region_count: usize) -> Target
 
 // The pool with the pages of one more cell; a sum past the end goes round.
 fn pool_grown(pool_used: u32, regions: usize) -> u32
-    ensures { result ≡ (pool_used + poolCost regions) % 2 ^ 32 }
+    ensures { result ≡ (pool_used + pool_cost regions) % 2 ^ 32 }
 {
     let wanted = std::num::wrapping_add_u32((regions % 0x1_0000_0000) as u32, 2);
     std::num::wrapping_add_u32(pool_used, wanted)
@@ -121,7 +121,7 @@ fn pool_grown(pool_used: u32, regions: usize) -> u32
 
 // The pool without the pages of a cell; none where more are given back than there are.
 fn pool_given_back(pool_used: u32, regions: usize) -> u32
-    ensures { result ≡ pool_used - poolCost regions }
+    ensures { result ≡ pool_used - pool_cost regions }
 {
     let used = pool_used as usize;
     if used < 2 {
@@ -145,7 +145,7 @@ pub fn numbers_after(
     live_ids: u16,
     root_cpus: u64,
 ) -> Numbers
-    ensures { result ≡ numbersAfter kind id (target_of id cpus region_count) new pool_used live_ids root_cpus }
+    ensures { result ≡ numbers_after kind id (target_of id cpus region_count) new pool_used live_ids root_cpus }
 {
     let target = target_of(id, cpus, region_count);
     match kind {
@@ -189,7 +189,7 @@ pub fn numbers_after(
 
 // What an effect does to the place of cell `id`.
 fn kind_change(kind: CallKind) -> CellChange
-    ensures { result ≡ kindChange kind }
+    ensures { result ≡ kind_change kind }
 {
     match kind {
         CallKind::Disable => CellChange::Keep,
@@ -201,7 +201,7 @@ fn kind_change(kind: CallKind) -> CellChange
 }
 
 pub fn cell_change(kind: CallKind, id: usize) -> CellChange
-    ensures { result ≡ cellChange kind id }
+    ensures { result ≡ cell_change kind id }
 {
     if id < MAX_CELLS {
         return kind_change(kind);
@@ -211,7 +211,7 @@ pub fn cell_change(kind: CallKind, id: usize) -> CellChange
 
 // A created cell.
 pub fn new_cell(record: &[u8]) -> Cell
-    ensures { result ≡ newCell (cell_of «record».now) }
+    ensures { result ≡ new_cell (cell_of «record».now) }
 {
     let new = cell_record::cell_of(record);
     let name = new.name;
@@ -227,7 +227,7 @@ pub fn new_cell(record: &[u8]) -> Cell
 
 // A cell in another phase.
 pub fn with_phase(phase: Phase, c: Cell) -> Cell
-    ensures { result ≡ withPhase phase c }
+    ensures { result ≡ with_phase phase c }
 {
     let name = c.name;
     let regions = c.regions;
@@ -242,7 +242,7 @@ pub fn with_phase(phase: Phase, c: Cell) -> Cell
 
 // The communication words of a created cell.
 fn new_comm(new: Figures) -> CommRegion
-    ensures { result ≡ newWords new }
+    ensures { result ≡ new_words new }
 {
     CommRegion {
         mapped: new.mapped,
@@ -256,7 +256,7 @@ fn new_comm(new: Figures) -> CommRegion
 
 // The words of a cell that starts.
 fn clear_words(w: CommRegion) -> CommRegion
-    ensures { result ≡ clearWords w }
+    ensures { result ≡ clear_words w }
 {
     let mut next = w;
     next.msg_to_cell = 0;
@@ -267,7 +267,7 @@ fn clear_words(w: CommRegion) -> CommRegion
 
 // The words of a cell that is set loadable.
 fn loadable_words(w: CommRegion) -> CommRegion
-    ensures { result ≡ withState 2 w }
+    ensures { result ≡ with_state 2 w }
 {
     let mut next = w;
     next.cell_state = SHUT_DOWN;
@@ -276,7 +276,7 @@ fn loadable_words(w: CommRegion) -> CommRegion
 
 // The words of a cell after an effect on it.
 fn changed_words(kind: CallKind, new: Figures, w: CommRegion) -> CommRegion
-    ensures { result ≡ wordsAfter kind new w }
+    ensures { result ≡ words_after kind new w }
 {
     match kind {
         CallKind::Disable => w,
@@ -289,7 +289,7 @@ fn changed_words(kind: CallKind, new: Figures, w: CommRegion) -> CommRegion
 
 // What is stored at the place of cell `id`'s words, where `w` stands.
 pub fn words_after(kind: CallKind, id: usize, new: Figures, w: CommRegion) -> CommRegion
-    ensures { result ≡ within id (wordsAfter kind new w) w }
+    ensures { result ≡ within id (words_after kind new w) w }
 {
     if id < MAX_CELLS {
         changed_words(kind, new, w)
@@ -300,7 +300,7 @@ pub fn words_after(kind: CallKind, id: usize, new: Figures, w: CommRegion) -> Co
 
 // The words of a cell that its reply limit cuts off.
 pub fn failed_words(w: CommRegion) -> CommRegion
-    ensures { result ≡ withState 3 w }
+    ensures { result ≡ with_state 3 w }
 {
     let mut next = w;
     next.cell_state = FAILED;

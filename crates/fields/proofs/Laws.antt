@@ -11,11 +11,11 @@ use lib.ListN.{length, take, drop, get_or, replicate, drop_of_length-le, length-
 use lib.Seq.{take-nil, drop-nil, drop-drop, drop-cons, get_or-take, ext_get_or}
 use lib.Dec.{leb}
 use Rattle.base.proofs.Lists.{part-rest}
-use Rattle.fields.specs.Fields.{littleEndian, field, padded, leading, graphic, zeros, isName}
+use Rattle.fields.specs.Fields.{little_endian, field, padded, leading, graphic, zeros, is_name}
 
 number-split : (m n : ℕ) (s : List ℕ)
-    → littleEndian (take (m + n) s) ≡ littleEndian (take m s) + 256 ^ m * littleEndian (take n (drop m s))
-unfolding littleEndian
+    → little_endian (take (m + n) s) ≡ little_endian (take m s) + 256 ^ m * little_endian (take n (drop m s))
+unfolding little_endian
 number-split zero n s = rw (zero-add, one-mul, zero-add)
 number-split (suc m) n [] = rw (suc-add, take-nil, mul-zero)
 number-split (suc m) n (b ∷ bs) =
@@ -39,13 +39,13 @@ pub field-halves : (w at : ℕ) (r : List ℕ) (low high : ℕ) → low ≡ fiel
 field-halves w at r low high l h = rw (l, h) (sym (field-split w w at r))
 
 pub field-byte : (at : ℕ) (r : List ℕ) → field 1 at r ≡ get_or r at 0
-unfolding field littleEndian
+unfolding field little_endian
 field-byte at [] = rw drop-nil
 field-byte zero (b ∷ bs) = omega arith
 field-byte (suc at) (b ∷ bs) = field-byte at bs
 
 pub field_past : (w at : ℕ) (r : List ℕ) → length r ≤ at → 0 ≡ field w at r
-unfolding field littleEndian
+unfolding field little_endian
 field_past w at r h = rw (drop_of_length-le r h, take-nil)
 
 -- a list of n numbers is its first n bytes where it agrees with them at each place
@@ -88,13 +88,13 @@ leading_le (b ∷ bs) = by-test (graphic b) (leading_le bs)
 
 -- a name, by the count of its bytes and what follows them
 pub name-parts : (bs : List ℕ) (n : ℕ) (z : Bool) → n ≡ leading bs → z ≡ zeros (take (length bs - n) (drop n bs))
-    → (leb 1 n && leb n 31 && z) ≡ isName bs
-unfolding isName
+    → (leb 1 n && leb n 31 && z) ≡ is_name bs
+unfolding is_name
 name-parts bs n z e f = rw (f, part-rest, e)
 
 -- a field of w bytes is below 256 ^ w
 pub field_bound : (w at : ℕ) (r : List ℕ) → ((i : ℕ) → get_or r i 0 < 256) → field w at r < 256 ^ w
-unfolding field littleEndian
+unfolding field little_endian
 field_bound zero at r b = omega arith
 field_bound (suc w) at r b =
     let one : field 1 at r < 256 = rw (field-byte at r) (b at) in

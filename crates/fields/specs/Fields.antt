@@ -3,13 +3,13 @@ use Rattle.std.specs.Prelude.{Bool, true, false, ◌&&◌, List, [], ◌∷◌, 
 use Rattle.base.specs.Lists.{all, part}
 
 -- "Little-endian": the first byte is the lowest
-unfoldable pub littleEndian : List ℕ → ℕ
-littleEndian [] = 0
-littleEndian (b ∷ bs) = b + 256 * littleEndian bs
+unfoldable pub little_endian : List ℕ → ℕ
+little_endian [] = 0
+little_endian (b ∷ bs) = b + 256 * little_endian bs
 
 -- the number in the w bytes at an offset. Bytes past the record's end count as zero
 unfoldable pub field : ℕ → ℕ → List ℕ → ℕ
-field w at r = littleEndian (part at w r)
+field w at r = little_endian (part at w r)
 
 -- u16, u32, u64 at an offset
 abbrev pub u16 : ℕ → List ℕ → ℕ
@@ -38,8 +38,8 @@ leading [] = 0
 leading (b ∷ bs) = elim (graphic b) [ true ↦ suc (leading bs) | false ↦ 0 ]
 
 -- "Name: 1 to 31 bytes 0x21..0x7e, then zeros"
-unfoldable pub isName : List ℕ → Bool
-isName bs = leb 1 (leading bs) && leb (leading bs) 31 && zeros (drop (leading bs) bs)
+unfoldable pub is_name : List ℕ → Bool
+is_name bs = leb 1 (leading bs) && leb (leading bs) 31 && zeros (drop (leading bs) bs)
 
 -- the first n bytes, with zeros past the end
 unfoldable pub padded : ℕ → List ℕ → List ℕ

@@ -4,7 +4,7 @@
 // there.
 ghost use Rattle.std.specs.Prelude.{◌≡◌, ◌+◌, ◌<◌, get_or, take, length};
 ghost use Rattle.base.specs.Lists.{same, part as part_of};
-ghost use Rattle.fields.specs.Fields.{u16, u32, u64, zeros, leading as leading-of, isName, padded};
+ghost use Rattle.fields.specs.Fields.{u16, u32, u64, zeros, leading as leading_of, is_name, padded};
 
 // The `n` bytes at an offset, fewer where the end comes first.
 pub fn part(s: &[u8], at: usize, n: usize) -> &[u8]
@@ -94,7 +94,7 @@ pub fn is_zero(s: &[u8]) -> bool
 
 // How many bytes 0x21..0x7e stand at the start.
 fn leading(s: &[u8]) -> usize
-    ensures { result ≡ leading-of s.now }
+    ensures { result ≡ leading_of s.now }
 {
     let mut i = 0;
     while i < s.len() {
@@ -110,7 +110,7 @@ fn leading(s: &[u8]) -> usize
 
 // Whether the bytes are a name: 1 to 31 bytes 0x21..0x7e, then zeros.
 pub fn is_name(s: &[u8]) -> bool
-    ensures { result ≡ isName s.now }
+    ensures { result ≡ is_name s.now }
 {
     let n = leading(s);
     (1 <= n) & (n <= 31) & is_zero(&s[n..])

@@ -12,10 +12,10 @@ use Rattle.machine_state.specs.declared.Event.TheVariants.{Call, Store, Fault, E
 use Rattle.machine_state.specs.declared.Answer.{Answer}
 use Rattle.machine_state.specs.declared.Answer.TheVariants.{Code, Wait, Done, Off, Bad, Stopped, Held, Denied, Idle}
 use Rattle.machine_state.specs.declared.Machine.{Machine}
-use Rattle.rules.specs.State.{cellIds, first}
-use Rattle.rules.specs.Answers.{isNegative}
-use Rattle.rules.specs.Calls.{cellDestroy}
-use Rattle.rules.specs.Observer.{kindOfCode, target_of}
+use Rattle.rules.specs.State.{cell_ids, first}
+use Rattle.rules.specs.Answers.{is_negative}
+use Rattle.rules.specs.Calls.{cell_destroy}
+use Rattle.rules.specs.Observer.{kind_of_code, target_of}
 use Rattle.rules.specs.Run.{Line, Manager, Happened, run}
 
 -- ---- cells that have been created and not destroyed
@@ -26,29 +26,29 @@ pub record Created : Type 0 where
   pub bytes : List ℕ
 
 -- the list has a cell of this ID; what its record says, nothing where there is none
-unfoldable pub hasCell : ℕ → List Created → Bool
-hasCell id cells = any (λ c. eqb c.id id) cells
+unfoldable pub has_cell : ℕ → List Created → Bool
+has_cell id cells = any (λ c. eqb c.id id) cells
 
-unfoldable pub recordBrought : ℕ → List Created → CellConfig
-recordBrought id [] = cell_of []
-recordBrought id (c ∷ cells) = elim (eqb c.id id) [ true ↦ cell_of c.bytes | false ↦ recordBrought id cells ]
+unfoldable pub record_brought : ℕ → List Created → CellConfig
+record_brought id [] = cell_of []
+record_brought id (c ∷ cells) = elim (eqb c.id id) [ true ↦ cell_of c.bytes | false ↦ record_brought id cells ]
 
 -- "the ID and its room are free again"
-unfoldable pub cellsBut : ℕ → List Created → List Created
-cellsBut id [] = []
-cellsBut id (c ∷ cells) = elim (eqb c.id id) [ true ↦ cellsBut id cells | false ↦ c ∷ cellsBut id cells ]
+unfoldable pub cells_but : ℕ → List Created → List Created
+cells_but id [] = []
+cells_but id (c ∷ cells) = elim (eqb c.id id) [ true ↦ cells_but id cells | false ↦ c ∷ cells_but id cells ]
 
 -- "smallest free ID from 1"
-unfoldable pub smallestFree : List Created → ℕ
-smallestFree cells = first (λ id. not (hasCell id cells)) cellIds
+unfoldable pub smallest_free : List Created → ℕ
+smallest_free cells = first (λ id. not (has_cell id cells)) cell_ids
 
 -- what a call's effect does to them. `bytes` is the record that comes with the call
-unfoldable pub cellsAfter : CallKind → ℕ → List ℕ → List Created → List Created
-cellsAfter Disable target bytes cells = []
-cellsAfter Create target bytes cells = record { id = smallestFree cells; bytes = bytes } ∷ cells
-cellsAfter Start target bytes cells = cells
-cellsAfter SetLoadable target bytes cells = cells
-cellsAfter Destroy target bytes cells = cellsBut target cells
+unfoldable pub cells_after : CallKind → ℕ → List ℕ → List Created → List Created
+cells_after Disable target bytes cells = []
+cells_after Create target bytes cells = record { id = smallest_free cells; bytes = bytes } ∷ cells
+cells_after Start target bytes cells = cells
+cells_after SetLoadable target bytes cells = cells
+cells_after Destroy target bytes cells = cells_but target cells
 
 -- ---- the call whose effect is still to come
 
@@ -57,12 +57,12 @@ pub data Ahead : Type 0 where
   Effect : CallKind → ℕ → Ahead
 
 -- a call that waits for `cell` has had its effect: Create from its call on, Destroy once it waits for another than its target
-unfoldable pub hasCome : CallKind → ℕ → ℕ → Bool
-hasCome Disable target cell = false
-hasCome Create target cell = true
-hasCome Start target cell = false
-hasCome SetLoadable target cell = false
-hasCome Destroy target cell = not (eqb cell target)
+unfoldable pub has_come : CallKind → ℕ → ℕ → Bool
+has_come Disable target cell = false
+has_come Create target cell = true
+has_come Start target cell = false
+has_come SetLoadable target cell = false
+has_come Destroy target cell = not (eqb cell target)
 
 -- ---- the history
 
@@ -72,53 +72,53 @@ pub record History : Type 0 where
   pub ahead : Ahead
   pub waits_for : ℕ
 
-abbrev pub nothingYet : History
-nothingYet = record { cells = []; ahead = Nothing; waits_for = 0 }
+abbrev pub nothing_yet : History
+nothing_yet = record { cells = []; ahead = Nothing; waits_for = 0 }
 
 -- a call has its effect
 unfoldable pub come : CallKind → ℕ → List ℕ → ℕ → History → History
-come kind target bytes cell h = record { cells = cellsAfter kind target bytes h.cells; ahead = Nothing; waits_for = cell }
+come kind target bytes cell h = record { cells = cells_after kind target bytes h.cells; ahead = Nothing; waits_for = cell }
 
 -- an answer, the call's own or a poll's, to a call whose effect is still to come
-unfoldable pub answeredBy : CallKind → ℕ → List ℕ → Answer → History → History
-answeredBy kind target bytes (Code (pos n)) h = come kind target bytes 0 h
-answeredBy kind target bytes (Code (negsuc n)) h = record { cells = h.cells; ahead = Nothing; waits_for = 0 }
-answeredBy kind target bytes (Wait cell) h =
-    elim (hasCome kind target cell) [
+unfoldable pub answered_by : CallKind → ℕ → List ℕ → Answer → History → History
+answered_by kind target bytes (Code (pos n)) h = come kind target bytes 0 h
+answered_by kind target bytes (Code (negsuc n)) h = record { cells = h.cells; ahead = Nothing; waits_for = 0 }
+answered_by kind target bytes (Wait cell) h =
+    elim (has_come kind target cell) [
       | true ↦ come kind target bytes cell h
       | false ↦ record { cells = h.cells; ahead = Effect kind target; waits_for = cell }
     ]
-answeredBy kind target bytes Done h = h
-answeredBy kind target bytes Off h = h
-answeredBy kind target bytes Bad h = h
-answeredBy kind target bytes Stopped h = h
-answeredBy kind target bytes Held h = h
-answeredBy kind target bytes Denied h = h
-answeredBy kind target bytes Idle h = h
+answered_by kind target bytes Done h = h
+answered_by kind target bytes Off h = h
+answered_by kind target bytes Bad h = h
+answered_by kind target bytes Stopped h = h
+answered_by kind target bytes Held h = h
+answered_by kind target bytes Denied h = h
+answered_by kind target bytes Idle h = h
 
 -- a call: codes 0 to 4 have effects, and one that is refused leaves all as it was, another call that waits included
 unfoldable pub after_call : ℕ → ℕ → List ℕ → Answer → History → History
 after_call code a1 bytes answer h =
-    elim (leb code cellDestroy && not (isNegative answer)) [
-      | true ↦ answeredBy (kindOfCode code) (target_of (kindOfCode code) a1) bytes answer h
+    elim (leb code cell_destroy && not (is_negative answer)) [
+      | true ↦ answered_by (kind_of_code code) (target_of (kind_of_code code) a1) bytes answer h
       | false ↦ h
     ]
 
 -- a poll of a call that has had its effect: only the cell that it waits for changes
-unfoldable pub afterTelling : Answer → History → History
-afterTelling (Code z) h = record { cells = h.cells; ahead = Nothing; waits_for = 0 }
-afterTelling (Wait cell) h = record { cells = h.cells; ahead = Nothing; waits_for = cell }
-afterTelling Done h = h
-afterTelling Off h = h
-afterTelling Bad h = h
-afterTelling Stopped h = h
-afterTelling Held h = h
-afterTelling Denied h = h
-afterTelling Idle h = h
+unfoldable pub after_telling : Answer → History → History
+after_telling (Code z) h = record { cells = h.cells; ahead = Nothing; waits_for = 0 }
+after_telling (Wait cell) h = record { cells = h.cells; ahead = Nothing; waits_for = cell }
+after_telling Done h = h
+after_telling Off h = h
+after_telling Bad h = h
+after_telling Stopped h = h
+after_telling Held h = h
+after_telling Denied h = h
+after_telling Idle h = h
 
-unfoldable pub afterPoll : Ahead → Answer → History → History
-afterPoll Nothing answer h = afterTelling answer h
-afterPoll (Effect kind target) answer h = answeredBy kind target [] answer h
+unfoldable pub after_poll : Ahead → Answer → History → History
+after_poll Nothing answer h = after_telling answer h
+after_poll (Effect kind target) answer h = answered_by kind target [] answer h
 
 -- one event and its answer
 unfoldable pub seen : Event → List ℕ → Answer → History → History
@@ -126,13 +126,13 @@ seen (Call cpu code a1 a2) bytes answer h = after_call code a1 bytes answer h
 seen (Store cpu word value) bytes answer h = h
 seen (Fault cpu) bytes answer h = h
 seen (Exit cpu kind) bytes answer h = h
-seen Poll bytes answer h = afterPoll h.ahead answer h
+seen Poll bytes answer h = after_poll h.ahead answer h
 seen Malformed bytes answer h = h
 
 -- the history of a run, from its start to its end
-unfoldable pub historyFrom : History → List Happened → History
-historyFrom h [] = h
-historyFrom h (s ∷ ss) = historyFrom (seen s.line.event s.line.bytes s.answer h) ss
+unfoldable pub history_from : History → List Happened → History
+history_from h [] = h
+history_from h (s ∷ ss) = history_from (seen s.line.event s.line.bytes s.answer h) ss
 
 abbrev pub history : Manager → Machine → List Line → History
-history manager m ls = historyFrom nothingYet (run manager m ls)
+history manager m ls = history_from nothing_yet (run manager m ls)

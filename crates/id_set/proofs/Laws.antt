@@ -5,19 +5,19 @@ use Prim.Native.Nat.{ℕ, zero, suc, ◌+◌, ◌-◌, ◌≤◌, ◌<◌}
 use native.Mathlib.Decide.{ℕ_discrete}
 use native.Mathlib.Omega.{arith}
 use Rattle.base.specs.Lists.{any, from}
-use Rattle.machine_state.specs.Machine.{maxCells}
-use Rattle.rules.specs.State.{first, cellIds}
+use Rattle.machine_state.specs.Machine.{max_cells}
+use Rattle.rules.specs.State.{first, cell_ids}
 use Rattle.id_set.specs.Choice.{choice}
 
 -- what a search over the IDs from i up finds
-abbrev pub firstFrom : (ℕ → Bool) → ℕ → ℕ
-firstFrom p i = first p (from i (maxCells - i))
+abbrev pub first_from : (ℕ → Bool) → ℕ → ℕ
+first_from p i = first p (from i (max_cells - i))
 
 abbrev pub any_from : (ℕ → Bool) → ℕ → Bool
-any_from p i = any p (from i (maxCells - i))
+any_from p i = any p (from i (max_cells - i))
 
 module _ (p : ℕ → Bool) where
-  first-none : maxCells ≡ firstFrom p maxCells
+  first-none : max_cells ≡ first_from p max_cells
   unfolding first from
   first-none = refl
 
@@ -33,39 +33,39 @@ module _ (p : ℕ → Bool) where
   unfolding any from
   any_at j n found t e q = rw (q, e)
 
-  pub first-start : maxCells ≡ firstFrom p maxCells
+  pub first-start : max_cells ≡ first_from p max_cells
   first-start = first-none
 
-  pub any-start : false ≡ any_from p maxCells
+  pub any-start : false ≡ any_from p max_cells
   unfolding any from
   any-start = refl
 
-  module _ (i : ℕ) (low : 1 < i) (high : i ≤ maxCells) where
+  module _ (i : ℕ) (low : 1 < i) (high : i ≤ max_cells) where
     next : i ≡ suc (i - 1)
     next = omega arith
 
-    more : suc (maxCells - i) ≡ maxCells - (i - 1)
+    more : suc (max_cells - i) ≡ max_cells - (i - 1)
     more = omega arith
 
-    pub first-turn : (found : ℕ) (t : Bool) → found ≡ firstFrom p i → t ≡ p (i - 1) → choice t (i - 1) found ≡ firstFrom p (i - 1)
+    pub first-turn : (found : ℕ) (t : Bool) → found ≡ first_from p i → t ≡ p (i - 1) → choice t (i - 1) found ≡ first_from p (i - 1)
     first-turn found t e q =
-        first-at (i - 1) (maxCells - i) found t (e ∙ ap (λ (m : ℕ). first p (from m (maxCells - i))) next) q
+        first-at (i - 1) (max_cells - i) found t (e ∙ ap (λ (m : ℕ). first p (from m (max_cells - i))) next) q
         ∙ ap (λ (n : ℕ). first p (from (i - 1) n)) more
 
     pub any-turn : (found t : Bool) → found ≡ any_from p i → t ≡ p (i - 1) → (t || found) ≡ any_from p (i - 1)
     any-turn found t e q =
-        any_at (i - 1) (maxCells - i) found t (e ∙ ap (λ (m : ℕ). any p (from m (maxCells - i))) next) q
+        any_at (i - 1) (max_cells - i) found t (e ∙ ap (λ (m : ℕ). any p (from m (max_cells - i))) next) q
         ∙ ap (λ (n : ℕ). any p (from (i - 1) n)) more
 
-  pub first-all : (i : ℕ) → 1 ≤ i → i ≤ 1 → firstFrom p i ≡ first p cellIds
-  first-all i l h = let e : i ≡ 1 = omega arith in ap (firstFrom p) e
+  pub first-all : (i : ℕ) → 1 ≤ i → i ≤ 1 → first_from p i ≡ first p cell_ids
+  first-all i l h = let e : i ≡ 1 = omega arith in ap (first_from p) e
 
-  pub any-all : (i : ℕ) → 1 ≤ i → i ≤ 1 → any_from p i ≡ any p cellIds
+  pub any-all : (i : ℕ) → 1 ≤ i → i ≤ 1 → any_from p i ≡ any p cell_ids
   any-all i l h = let e : i ≡ 1 = omega arith in ap (any_from p) e
 
 -- the number that passes the test while none before it does, or 16, is the first
-pub first-is : (p : ℕ → Bool) (n i r : ℕ) → i + n ≡ maxCells → i ≤ r → r ≤ maxCells → ((k : ℕ) → i ≤ k → k < r → p k ≡ false)
-    → (r < maxCells → p r ≡ true) → r ≡ first p (from i n)
+pub first-is : (p : ℕ → Bool) (n i r : ℕ) → i + n ≡ max_cells → i ≤ r → r ≤ max_cells → ((k : ℕ) → i ≤ k → k < r → p k ≡ false)
+    → (r < max_cells → p r ≡ true) → r ≡ first p (from i n)
 unfolding first from
 first-is p zero i r e l h below here = omega arith
 first-is p (suc n) i r e l h below here =

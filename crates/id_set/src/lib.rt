@@ -2,15 +2,15 @@
 ghost use Rattle.std.specs.Prelude.{◌≡◌, ℕ, ◌<◌, eqb};
 ghost use Rattle.cpu_set.specs.CpuSet.{member};
 ghost use Rattle.machine_state.specs.declared.Machine.{Machine};
-ghost use Rattle.rules.specs.State.{hasId};
-ghost use Rattle.rules.specs.Create.{freeId};
-ghost use Rattle.rules.specs.Effects.{addId, dropId};
+ghost use Rattle.rules.specs.State.{has_id};
+ghost use Rattle.rules.specs.Create.{free_id};
+ghost use Rattle.rules.specs.Effects.{add_id, drop_id};
 ghost use Rattle.id_set.specs.Ids.{Lowest};
 ghost use Rattle.id_set.specs.Choice.{choice};
 
 // Whether cell `id` is live.
 pub fn is_live(live_ids: u16, id: u64) -> bool
-    ensures { result ≡ hasId live_ids id }
+    ensures { result ≡ has_id live_ids id }
 {
     if id >= 16 {
         return false;
@@ -27,7 +27,7 @@ pub fn choose(b: bool, x: usize, y: usize) -> usize
 
 // The smallest free ID from 1, or 16: the lowest bit that is clear, with root's counted as set.
 pub fn free_id(live_ids: u16) -> usize
-    ensures { (m : Machine) → m.live_ids ≡ live_ids → result ≡ freeId m }
+    ensures { (m : Machine) → m.live_ids ≡ live_ids → result ≡ free_id m }
 {
     u16::trailing_zeros(!(live_ids | 1)) as usize
 }
@@ -41,14 +41,14 @@ pub fn single(id: usize) -> u64
 
 // The set of IDs with one more.
 pub fn add_id(live_ids: u16, id: usize) -> u16
-    ensures { result ≡ addId id live_ids }
+    ensures { result ≡ add_id id live_ids }
 {
     (cpu_set::union(live_ids as u64, single(id)) % 0x1_0000) as u16
 }
 
 // The set of IDs with one less.
 pub fn drop_id(live_ids: u16, id: usize) -> u16
-    ensures { result ≡ dropId id live_ids }
+    ensures { result ≡ drop_id id live_ids }
 {
     (cpu_set::without(live_ids as u64, single(id)) % 0x1_0000) as u16
 }

@@ -12,8 +12,8 @@ use lib.ListN.{length, take, length-take}
 use lib.Seq.{take_all}
 use Rattle.base.proofs.Tests.{le-or-lt}
 use Rattle.machine_state.specs.declared.Event.TheVariants.{Malformed}
-use Rattle.lines.specs.Lines.{maxLine, maxRecord, space, intoFirst, lineWords, isCreate, eventOf, recordOf, lineEvent, lineRecord}
-use Rattle.lines.specs.Reading.{hexWord, lineHex}
+use Rattle.lines.specs.Lines.{max_line, max_record, space, into_first, line_words, is_create, event_of, record_of, line_event, line_record}
+use Rattle.lines.specs.Reading.{hex_word, line_hex}
 use Rattle.lines.proofs.PairLaws.{length-bytes}
 use Rattle.lines.proofs.RecordLaws.{hex-record}
 
@@ -23,67 +23,67 @@ abbrev total : List (List ℕ) → ℕ
 total [] = 0
 total (w ∷ ws) = length w + total ws
 
-longer : (b : ℕ) (ws : List (List ℕ)) → total (intoFirst b ws) ≤ suc (total ws)
-unfolding intoFirst
+longer : (b : ℕ) (ws : List (List ℕ)) → total (into_first b ws) ≤ suc (total ws)
+unfolding into_first
 longer b [] = omega arith
 longer b (w ∷ ws) = omega arith
 
-words-total : (s : List ℕ) → total (lineWords s) ≤ length s
-unfolding lineWords
+words-total : (s : List ℕ) → total (line_words s) ≤ length s
+unfolding line_words
 words-total [] = omega arith
 words-total (b ∷ bs) = by-test (eqb b space) (words-total bs)
   where
-    by-test : (t : Bool) → total (lineWords bs) ≤ length bs
-        → total (elim t as (λ x. List (List ℕ)) [ true ↦ [] ∷ lineWords bs | false ↦ intoFirst b (lineWords bs) ]) ≤ suc (length bs)
+    by-test : (t : Bool) → total (line_words bs) ≤ length bs
+        → total (elim t as (λ x. List (List ℕ)) [ true ↦ [] ∷ line_words bs | false ↦ into_first b (line_words bs) ]) ≤ suc (length bs)
     by-test true h = omega arith
-    by-test false h = omega (arith, longer b (lineWords bs))
+    by-test false h = omega (arith, longer b (line_words bs))
 
-hex-total : (ws : List (List ℕ)) → length (hexWord ws) ≤ total ws
-unfolding hexWord
+hex-total : (ws : List (List ℕ)) → length (hex_word ws) ≤ total ws
+unfolding hex_word
 hex-total [] = omega arith
 hex-total (w ∷ []) = omega arith
 hex-total (w ∷ a ∷ []) = omega arith
-hex-total (w ∷ a ∷ b ∷ []) = by-test (isCreate w a b)
+hex-total (w ∷ a ∷ b ∷ []) = by-test (is_create w a b)
   where
     by-test : (t : Bool) → length {A = ℕ} (elim t as (λ x. List ℕ) [ true ↦ b | false ↦ [] ]) ≤ length w + (length a + (length b + 0))
     by-test true = omega arith
     by-test false = omega arith
 hex-total (w ∷ a ∷ b ∷ c ∷ ws) = omega arith
 
-hex-short : (line : List ℕ) → length (lineHex line) ≤ maxLine
-unfolding lineHex
-hex-short line = by-test (leb (length line) maxLine) refl
+hex-short : (line : List ℕ) → length (line_hex line) ≤ max_line
+unfolding line_hex
+hex-short line = by-test (leb (length line) max_line) refl
   where
-    by-test : (t : Bool) → leb (length line) maxLine ≡ t
-        → length {A = ℕ} (elim t as (λ x. List ℕ) [ true ↦ hexWord (lineWords line) | false ↦ [] ]) ≤ maxLine
-    by-test true e = omega (arith, hex-total (lineWords line), words-total line, leb-true (length line) maxLine e)
+    by-test : (t : Bool) → leb (length line) max_line ≡ t
+        → length {A = ℕ} (elim t as (λ x. List ℕ) [ true ↦ hex_word (line_words line) | false ↦ [] ]) ≤ max_line
+    by-test true e = omega (arith, hex-total (line_words line), words-total line, leb-true (length line) max_line e)
     by-test false e = omega arith
 
-pub record-short : (line : List ℕ) → length (lineRecord line) ≤ maxRecord
-record-short line = rw (sym (hex-record line (lineHex line) refl), length-bytes (lineHex line)) (omega (arith, hex-short line))
+pub record-short : (line : List ℕ) → length (line_record line) ≤ max_record
+record-short line = rw (sym (hex-record line (line_hex line) refl), length-bytes (line_hex line)) (omega (arith, hex-short line))
 
 -- ---- what stands past the longest line
 
 module _ {A : Type 0} (f : List ℕ → A) (z : A) where
-  abbrev unlessLong : List ℕ → A
-  unlessLong line = elim (leb (length line) maxLine) [ true ↦ f line | false ↦ z ]
+  abbrev unless_long : List ℕ → A
+  unless_long line = elim (leb (length line) max_line) [ true ↦ f line | false ↦ z ]
 
-  past : (line : List ℕ) → maxLine < length line → unlessLong line ≡ z
-  past line h = rw (lt-leb (length line) maxLine h, unlessLong)
+  past : (line : List ℕ) → max_line < length line → unless_long line ≡ z
+  past line h = rw (lt-leb (length line) max_line h, unless_long)
 
-  cut : (line : List ℕ) → unlessLong (take (suc maxLine) line) ≡ unlessLong line
-  cut line = ⊎_elim short long (le-or-lt (length line) maxLine)
+  cut : (line : List ℕ) → unless_long (take (suc max_line) line) ≡ unless_long line
+  cut line = ⊎_elim short long (le-or-lt (length line) max_line)
     where
-      short : length line ≤ maxLine → unlessLong (take (suc maxLine) line) ≡ unlessLong line
-      short h = ap unlessLong (take_all (suc maxLine) line (omega arith))
+      short : length line ≤ max_line → unless_long (take (suc max_line) line) ≡ unless_long line
+      short h = ap unless_long (take_all (suc max_line) line (omega arith))
 
-      long : maxLine < length line → unlessLong (take (suc maxLine) line) ≡ unlessLong line
-      long h = past (take (suc maxLine) line) (omega (arith, length-take (suc maxLine) line)) ∙ sym (past line h)
+      long : max_line < length line → unless_long (take (suc max_line) line) ≡ unless_long line
+      long h = past (take (suc max_line) line) (omega (arith, length-take (suc max_line) line)) ∙ sym (past line h)
 
-pub event-cut : (line : List ℕ) → lineEvent (take (suc maxLine) line) ≡ lineEvent line
-unfolding lineEvent
-event-cut line = cut (λ l. eventOf (lineWords l)) Malformed line
+pub event-cut : (line : List ℕ) → line_event (take (suc max_line) line) ≡ line_event line
+unfolding line_event
+event-cut line = cut (λ l. event_of (line_words l)) Malformed line
 
-pub record-cut : (line : List ℕ) → lineRecord (take (suc maxLine) line) ≡ lineRecord line
-unfolding lineRecord
-record-cut line = cut (λ l. recordOf (lineWords l)) [] line
+pub record-cut : (line : List ℕ) → line_record (take (suc max_line) line) ≡ line_record line
+unfolding line_record
+record-cut line = cut (λ l. record_of (line_words l)) [] line

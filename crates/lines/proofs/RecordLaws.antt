@@ -8,32 +8,32 @@ use lib.Dec.{leb}
 use lib.ListN.{length}
 use Rattle.base.specs.Lists.{same}
 use Rattle.base.proofs.Tests.{is_true, holds, and_right}
-use Rattle.lines.specs.Lines.{maxLine, lineWords, is_number, isPairs, isHex, bytes_of, wordCreate, isCreate, recordOf, lineRecord}
-use Rattle.lines.specs.Reading.{hexWord, lineHex}
+use Rattle.lines.specs.Lines.{max_line, line_words, is_number, is_pairs, is_hex, bytes_of, word_create, is_create, record_of, line_record}
+use Rattle.lines.specs.Reading.{hex_word, line_hex}
 
 -- ---- the HEX of a line's words
 
-pub one-word-only : (w : List ℕ) → [] ≡ hexWord (w ∷ [])
-unfolding hexWord
+pub one-word-only : (w : List ℕ) → [] ≡ hex_word (w ∷ [])
+unfolding hex_word
 one-word-only w = refl
 
-pub two-words-only : (w a : List ℕ) → [] ≡ hexWord (w ∷ a ∷ [])
-unfolding hexWord
+pub two-words-only : (w a : List ℕ) → [] ≡ hex_word (w ∷ a ∷ [])
+unfolding hex_word
 two-words-only w a = refl
 
-pub more-words : (w a b c : List ℕ) (ws : List (List ℕ)) → [] ≡ hexWord (w ∷ a ∷ b ∷ c ∷ ws)
-unfolding hexWord
+pub more-words : (w a b c : List ℕ) (ws : List (List ℕ)) → [] ≡ hex_word (w ∷ a ∷ b ∷ c ∷ ws)
+unfolding hex_word
 more-words w a b c ws = refl
 
 -- ---- the HEX of a line, and its record
 
-pub hex-said : (line h : List ℕ) (ws : List (List ℕ)) → length line ≤ maxLine → lineWords line ≡ ws → h ≡ hexWord ws → h ≡ lineHex line
-unfolding lineHex
-hex-said line h ws l q e = e ∙ ap hexWord (sym q) ∙ rw (le-leb _ _ l, lineHex)
+pub hex-said : (line h : List ℕ) (ws : List (List ℕ)) → length line ≤ max_line → line_words line ≡ ws → h ≡ hex_word ws → h ≡ line_hex line
+unfolding line_hex
+hex-said line h ws l q e = e ∙ ap hex_word (sym q) ∙ rw (le-leb _ _ l, line_hex)
 
-pub no-hex : (line : List ℕ) → maxLine < length line → [] ≡ lineHex line
-unfolding lineHex
-no-hex line h = rw (lt-leb _ _ h, lineHex)
+pub no-hex : (line : List ℕ) → max_line < length line → [] ≡ line_hex line
+unfolding line_hex
+no-hex line h = rw (lt-leb _ _ h, line_hex)
 
 -- HEX is pairs, and the record is the bytes that they make
 either_way : {A : Type 0} (f : List ℕ → A) (t : Bool) (x y : List ℕ)
@@ -41,48 +41,48 @@ either_way : {A : Type 0} (f : List ℕ → A) (t : Bool) (x y : List ℕ)
 either_way f true x y = refl
 either_way f false x y = refl
 
-words-record : (ws : List (List ℕ)) → bytes_of (hexWord ws) ≡ recordOf ws
-unfolding hexWord recordOf bytes_of
+words-record : (ws : List (List ℕ)) → bytes_of (hex_word ws) ≡ record_of ws
+unfolding hex_word record_of bytes_of
 words-record [] = refl
 words-record (w ∷ []) = refl
 words-record (w ∷ a ∷ []) = refl
-words-record (w ∷ a ∷ b ∷ []) = either_way bytes_of (isCreate w a b) b []
+words-record (w ∷ a ∷ b ∷ []) = either_way bytes_of (is_create w a b) b []
 words-record (w ∷ a ∷ b ∷ c ∷ ws) = refl
 
-line-record : (line : List ℕ) → bytes_of (lineHex line) ≡ lineRecord line
-unfolding lineHex lineRecord bytes_of
+line-record : (line : List ℕ) → bytes_of (line_hex line) ≡ line_record line
+unfolding line_hex line_record bytes_of
 line-record line =
-    either_way bytes_of (leb (length line) maxLine) (hexWord (lineWords line)) []
-    ∙ ap (λ (r : List ℕ). elim (leb (length line) maxLine) [ true ↦ r | false ↦ [] ]) (words-record (lineWords line))
+    either_way bytes_of (leb (length line) max_line) (hex_word (line_words line)) []
+    ∙ ap (λ (r : List ℕ). elim (leb (length line) max_line) [ true ↦ r | false ↦ [] ]) (words-record (line_words line))
 
-create-pairs : (w a b : List ℕ) → isCreate w a b ≡ true → isPairs b ≡ true
-unfolding isCreate isHex
+create-pairs : (w a b : List ℕ) → is_create w a b ≡ true → is_pairs b ≡ true
+unfolding is_create is_hex
 create-pairs w a b e =
-    is_true (isPairs b)
-    (and_right (leb 1 (length b)) (isPairs b) (and_right (same w wordCreate && is_number 64 a) (isHex b) (holds e)))
+    is_true (is_pairs b)
+    (and_right (leb 1 (length b)) (is_pairs b) (and_right (same w word_create && is_number 64 a) (is_hex b) (holds e)))
 
-words-pairs : (ws : List (List ℕ)) → isPairs (hexWord ws) ≡ true
-unfolding hexWord isPairs
+words-pairs : (ws : List (List ℕ)) → is_pairs (hex_word ws) ≡ true
+unfolding hex_word is_pairs
 words-pairs [] = refl
 words-pairs (w ∷ []) = refl
 words-pairs (w ∷ a ∷ []) = refl
-words-pairs (w ∷ a ∷ b ∷ []) = by-test (isCreate w a b) refl
+words-pairs (w ∷ a ∷ b ∷ []) = by-test (is_create w a b) refl
   where
-    by-test : (t : Bool) → isCreate w a b ≡ t → isPairs (elim t [ true ↦ b | false ↦ [] ]) ≡ true
+    by-test : (t : Bool) → is_create w a b ≡ t → is_pairs (elim t [ true ↦ b | false ↦ [] ]) ≡ true
     by-test true e = create-pairs w a b e
     by-test false e = refl
 words-pairs (w ∷ a ∷ b ∷ c ∷ ws) = refl
 
-line-pairs : (line : List ℕ) → isPairs (lineHex line) ≡ true
-unfolding lineHex isPairs
-line-pairs line = by-test (leb (length line) maxLine)
+line-pairs : (line : List ℕ) → is_pairs (line_hex line) ≡ true
+unfolding line_hex is_pairs
+line-pairs line = by-test (leb (length line) max_line)
   where
-    by-test : (t : Bool) → isPairs (elim t [ true ↦ hexWord (lineWords line) | false ↦ [] ]) ≡ true
-    by-test true = words-pairs (lineWords line)
+    by-test : (t : Bool) → is_pairs (elim t [ true ↦ hex_word (line_words line) | false ↦ [] ]) ≡ true
+    by-test true = words-pairs (line_words line)
     by-test false = refl
 
-pub hex-pairs : (line h : List ℕ) → h ≡ lineHex line → isPairs h ≡ true
-hex-pairs line h e = ap isPairs e ∙ line-pairs line
+pub hex-pairs : (line h : List ℕ) → h ≡ line_hex line → is_pairs h ≡ true
+hex-pairs line h e = ap is_pairs e ∙ line-pairs line
 
-pub hex-record : (line h : List ℕ) → h ≡ lineHex line → bytes_of h ≡ lineRecord line
+pub hex-record : (line h : List ℕ) → h ≡ line_hex line → bytes_of h ≡ line_record line
 hex-record line h e = ap bytes_of e ∙ line-record line

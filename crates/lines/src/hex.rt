@@ -1,17 +1,17 @@
 // Bytes written as lower-case pairs of digits.
 ghost use Rattle.std.specs.Prelude.{◌≡◌, true, ◌++◌, ◌<◌, min, length, take, drop};
-ghost use Rattle.lines.specs.Lines.{isHexDigit, hexDigit, isPairs, isHex, bytes_of};
+ghost use Rattle.lines.specs.Lines.{is_hex_digit, hex_digit, is_pairs, is_hex, bytes_of};
 
 // Whether a byte is a digit of HEX.
 fn is_hex_digit(b: u8) -> bool
-    ensures { result ≡ isHexDigit b }
+    ensures { result ≡ is_hex_digit b }
 {
     ((b'0' <= b) & (b <= b'9')) | ((b'a' <= b) & (b <= b'f'))
 }
 
 // Whether a word is one or more pairs.
 pub(crate) fn is_hex(w: &[u8]) -> bool
-    ensures { result ≡ isHex w.now }
+    ensures { result ≡ is_hex w.now }
 {
     if w.len() < 1 {
         return false;
@@ -30,8 +30,8 @@ pub(crate) fn is_hex(w: &[u8]) -> bool
 
 // The number of a digit.
 fn hex_digit(b: u8) -> u8
-    requires { isHexDigit b ≡ true }
-    ensures value { result ≡ hexDigit b }
+    requires { is_hex_digit b ≡ true }
+    ensures value { result ≡ hex_digit b }
     ensures upper_bound { result < 16 }
 {
     if b <= b'9' { b - b'0' } else { b - 0x57 }
@@ -47,7 +47,7 @@ fn least(a: usize, b: usize) -> usize
 // Writes the bytes that the pairs of `w` make to the start of `out`, as far as they fit, and gives
 // their number.
 pub(crate) fn decode(w: &[u8], out: &mut [u8]) -> usize
-    requires { isPairs w.now ≡ true }
+    requires { is_pairs w.now ≡ true }
     ensures value { result ≡ min (length (bytes_of w.now)) (length out.old) }
     ensures out_after { out.new ≡ take result (bytes_of w.now) ++ drop result out.old }
 {

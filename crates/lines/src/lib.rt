@@ -7,7 +7,7 @@ mod numbers;
 mod words;
 
 ghost use Rattle.std.specs.Prelude.{◌≡◌, [], ◌∷◌};
-ghost use Rattle.lines.specs.Lines.{eventOf, lineEvent, lineRecord};
+ghost use Rattle.lines.specs.Lines.{event_of, line_event, line_record};
 ghost use Rattle.lines.specs.Reading.{Three, Cuts, ReadsLine, ending};
 
 use hex::{decode, is_hex};
@@ -46,7 +46,7 @@ struct Cut {
 
 // `poll`
 fn one_word(w: &[u8]) -> Event
-    ensures { result ≡ eventOf (w.now ∷ []) }
+    ensures { result ≡ event_of (w.now ∷ []) }
 {
     if is_word(w, b"poll") {
         Event::Poll
@@ -57,7 +57,7 @@ fn one_word(w: &[u8]) -> Event
 
 // `fault CPU`
 fn two_words(w: &[u8], a: &[u8]) -> Event
-    ensures { result ≡ eventOf (w.now ∷ a.now ∷ []) }
+    ensures { result ≡ event_of (w.now ∷ a.now ∷ []) }
 {
     let cpu = word_number(a);
     if is_word(w, b"fault") & cpu.ok {
@@ -94,7 +94,7 @@ fn three_words(w: &[u8], a: &[u8], b: &[u8]) -> ThreeWords
 
 // `store CPU WORD VALUE`
 fn four_words(w: &[u8], a: &[u8], b: &[u8], c: &[u8]) -> Event
-    ensures { result ≡ eventOf (w.now ∷ a.now ∷ b.now ∷ c.now ∷ []) }
+    ensures { result ≡ event_of (w.now ∷ a.now ∷ b.now ∷ c.now ∷ []) }
 {
     let cpu = word_number(a);
     let word = word_number(b);
@@ -108,7 +108,7 @@ fn four_words(w: &[u8], a: &[u8], b: &[u8], c: &[u8]) -> Event
 
 // `call CPU CODE A1 A2`
 fn five_words(w: &[u8], a: &[u8], b: &[u8], c: &[u8], d: &[u8]) -> Event
-    ensures { result ≡ eventOf (w.now ∷ a.now ∷ b.now ∷ c.now ∷ d.now ∷ []) }
+    ensures { result ≡ event_of (w.now ∷ a.now ∷ b.now ∷ c.now ∷ d.now ∷ []) }
 {
     let cpu = word_number(a);
     let code = word32_number(b);

@@ -1,6 +1,6 @@
 // Unsigned decimals without leading zeros.
 ghost use Rattle.std.specs.Prelude.{◌≡◌, ◌<◌, ◌^◌};
-ghost use Rattle.lines.specs.Reading.{wordNumber, withDigit, withDigits};
+ghost use Rattle.lines.specs.Reading.{word_number, with_digit, with_digits};
 
 // A number, and whether there is one; its value is 0 where there is none.
 #[derive(Drop)]
@@ -14,7 +14,7 @@ const TENTH: u64 = 1844674407370955161;
 
 // `n` with one digit more.
 fn with_digit(n: u64, b: u8) -> Number
-    ensures { result ≡ withDigit n b }
+    ensures { result ≡ with_digit n b }
 {
     if b < b'0' {
         return Number {
@@ -49,7 +49,7 @@ fn with_digit(n: u64, b: u8) -> Number
 
 // The number that the digits of `w` make.
 fn digits_of(w: &[u8]) -> Number
-    ensures { result ≡ withDigits 0 w.now }
+    ensures { result ≡ with_digits 0 w.now }
 {
     let mut n: u64 = 0;
     let mut i = 0;
@@ -69,7 +69,7 @@ fn digits_of(w: &[u8]) -> Number
 
 // A word as a number below 2^64.
 pub(crate) fn word_number(w: &[u8]) -> Number
-    ensures { result ≡ wordNumber 64 w.now }
+    ensures { result ≡ word_number 64 w.now }
 {
     if w.len() < 1 {
         return Number {
@@ -88,7 +88,7 @@ pub(crate) fn word_number(w: &[u8]) -> Number
 
 // A word as a number below 2^32.
 pub(crate) fn word32_number(w: &[u8]) -> Number
-    ensures value { result ≡ wordNumber 32 w.now }
+    ensures value { result ≡ word_number 32 w.now }
     ensures value_bound { result.value < 2 ^ 32 }
 {
     let n = word_number(w);

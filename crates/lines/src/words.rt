@@ -1,11 +1,11 @@
 // The words of a line.
 ghost use Rattle.std.specs.Prelude.{◌≡◌};
 ghost use Rattle.base.specs.Lists.{same};
-ghost use Rattle.lines.specs.Reading.{wordEnd};
+ghost use Rattle.lines.specs.Reading.{word_end};
 
 // The place of the first space from `at` on, or the end.
 pub(crate) fn word_end(s: &[u8], at: usize) -> usize
-    ensures { result ≡ wordEnd at s.now }
+    ensures { result ≡ word_end at s.now }
 {
     let mut i = at;
     while i < s.len() {

@@ -2,10 +2,10 @@
 // has a region in conflict with the record's. A look takes one cell at a time.
 ghost use Rattle.std.specs.Prelude.{◌≡◌, true, take};
 ghost use Rattle.base.specs.Lists.{any, same};
-ghost use Rattle.cell_record.specs.CellRecord.{cell_of, cellRegions};
+ghost use Rattle.cell_record.specs.CellRecord.{cell_of, cell_regions};
 ghost use Rattle.machine_state.specs.declared.Machine.{Machine};
-ghost use Rattle.rules.specs.Create.{conflict as conflict-of, conflicts as conflicts-of};
-ghost use Rattle.live_cells.specs.Looks.{nothingFound, lookedAt, foundLive, asksCreate, toLookAt};
+ghost use Rattle.rules.specs.Create.{conflict as conflict_of, conflicts as conflicts_of};
+ghost use Rattle.live_cells.specs.Looks.{nothing_found, looked_at, found_live, asks_create, to_look_at};
 
 use machine_state::{CELL_CREATE, Cell, Event, MAX_CELLS};
 use region_table::MAX_REGIONS;
@@ -13,7 +13,7 @@ use regions::MemRegion;
 
 // Whether two regions of different cells may not both be: they meet, and are not both shared.
 fn conflict(r: MemRegion, s: MemRegion) -> bool
-    ensures { result ≡ conflict-of r s }
+    ensures { result ≡ conflict_of r s }
 {
     !regions::is_comm(r)
         & !regions::is_comm(s)
@@ -23,7 +23,7 @@ fn conflict(r: MemRegion, s: MemRegion) -> bool
 
 // Whether one of the first `count` regions of a table is in conflict with a region.
 fn conflicts_one(table: [MemRegion; MAX_REGIONS], count: usize, s: MemRegion) -> bool
-    ensures { result ≡ any (λ r. conflict-of r s) (take count table) }
+    ensures { result ≡ any (λ r. conflict_of r s) (take count table) }
 {
     let n = region_table::used(count, MAX_REGIONS);
     let mut found = false;
@@ -37,7 +37,7 @@ fn conflicts_one(table: [MemRegion; MAX_REGIONS], count: usize, s: MemRegion) ->
 
 // Whether some region of a cell is in conflict with one of the record's, each of which is read once.
 pub fn meets(c: Cell, record: &[u8]) -> bool
-    ensures { result ≡ conflicts-of (take c.region_count c.regions) (cellRegions (cell_of «record».now)) }
+    ensures { result ≡ conflicts_of (take c.region_count c.regions) (cell_regions (cell_of «record».now)) }
 {
     let table = c.regions;
     let n = cell_record::region_count(record);
@@ -69,7 +69,7 @@ pub struct Found {
 
 // Before any look.
 pub fn nothing_found() -> Found
-    ensures { result ≡ nothingFound }
+    ensures { result ≡ nothing_found }
 {
     Found {
         named: false,
@@ -79,7 +79,7 @@ pub fn nothing_found() -> Found
 
 // What is found once cell `c` is looked at, too.
 pub fn look(found: Found, c: Cell, record: &[u8]) -> Found
-    ensures { result ≡ lookedAt found c «record».now }
+    ensures { result ≡ looked_at found c «record».now }
 {
     Found {
         named: found.named | has_name(c, record),
@@ -89,7 +89,7 @@ pub fn look(found: Found, c: Cell, record: &[u8]) -> Found
 
 // Whether an event is a call of Create.
 pub fn asks_create(e: Event) -> bool
-    ensures { result ≡ asksCreate e }
+    ensures { result ≡ asks_create e }
 {
     match e {
         Event::Call(_, code, _, _) => code == CELL_CREATE,
@@ -103,7 +103,7 @@ pub fn asks_create(e: Event) -> bool
 
 // The IDs of the cells to look at for an event: for a Create the live ones but root.
 pub fn to_look_at(e: Event, live_ids: u16) -> u16
-    ensures { result ≡ toLookAt e live_ids }
+    ensures { result ≡ to_look_at e live_ids }
 {
     if asks_create(e) {
         id_set::drop_id(live_ids, 0)
@@ -114,7 +114,7 @@ pub fn to_look_at(e: Event, live_ids: u16) -> u16
 
 // What a look at every live cell but root finds, where an event is a Create.
 pub fn look_through(e: Event, live_ids: u16, cells: [Cell; MAX_CELLS], record: &[u8]) -> Found
-    ensures { (m : Machine) → m.live_ids ≡ live_ids → m.cells ≡ cells → asksCreate e ≡ true → result ≡ foundLive «record».now m }
+    ensures { (m : Machine) → m.live_ids ≡ live_ids → m.cells ≡ cells → asks_create e ≡ true → result ≡ found_live «record».now m }
 {
     let mut found = nothing_found();
     let mut left = to_look_at(e, live_ids);

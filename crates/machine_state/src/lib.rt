@@ -1,7 +1,7 @@
 // The machine: what the manager keeps between two events. Every value of these types is allowed;
 // which ones a start can reach is a theorem and no precondition.
 ghost use Rattle.std.specs.Prelude.{◌≡◌};
-ghost use Rattle.machine_state.specs.Machine.{freshCpu, noComm, noCell, firstMachine, bootOf};
+ghost use Rattle.machine_state.specs.Machine.{fresh_cpu, no_comm, no_cell, first_machine, boot_of};
 
 use region_table::MAX_REGIONS;
 use regions::MemRegion;
@@ -229,7 +229,7 @@ pub enum RegionByte {
 
 // A CPU as it is when a cell gets it: unfailed, its counters zero.
 pub fn fresh_cpu(cell: usize, stopped: bool) -> Cpu
-    ensures { result ≡ freshCpu cell stopped }
+    ensures { result ≡ fresh_cpu cell stopped }
 {
     Cpu {
         cell,
@@ -241,7 +241,7 @@ pub fn fresh_cpu(cell: usize, stopped: bool) -> Cpu
 
 // The communication words of a place that no cell has.
 pub fn no_comm() -> CommRegion
-    ensures { result ≡ noComm }
+    ensures { result ≡ no_comm }
 {
     CommRegion {
         mapped: false,
@@ -255,7 +255,7 @@ pub fn no_comm() -> CommRegion
 
 // A place of the table that no cell has.
 pub fn no_cell() -> Cell
-    ensures { result ≡ noCell }
+    ensures { result ≡ no_cell }
 {
     let regions = [region_table::no_region(); MAX_REGIONS];
     Cell {
@@ -269,7 +269,7 @@ pub fn no_cell() -> Cell
 
 // A machine with no cell but root, which has all boot CPUs, running.
 fn first_machine(power: Power, system: SystemConfig) -> Machine
-    ensures { result ≡ firstMachine power system }
+    ensures { result ≡ first_machine power system }
 {
     let pool = system.pool;
     Machine {
@@ -287,7 +287,7 @@ fn first_machine(power: Power, system: SystemConfig) -> Machine
 
 // Boots from a system record: 0 and a running machine, or the refusal and one that is off.
 pub fn boot(s: &[u8]) -> Booted
-    ensures { result ≡ bootOf s.now }
+    ensures { result ≡ boot_of s.now }
 {
     let read = system_record::read_system(s);
     let config = read.config;

@@ -1,6 +1,6 @@
 // The question about cell pages: what a page is mapped to for a cell.
 ghost use Rattle.std.specs.Prelude.{◌≡◌, take};
-ghost use Rattle.rules.specs.Pages.{hasVirt, regionFor, accessOf, mappedBy, cellMapping, ifTouchable, rootMapping, mappingOf};
+ghost use Rattle.rules.specs.Pages.{has_virt, region_for, access_of, mapped_by, cell_mapping, if_touchable, root_mapping, mapping_of};
 
 use machine_state::{Access, CellPage, Machine, Mapping, PhysPage};
 use region_table::{MAX_BOOT_REGIONS, MAX_REGIONS};
@@ -8,14 +8,14 @@ use regions::MemRegion;
 
 // Whether a region has a cell page.
 fn has_virt(r: MemRegion, page: CellPage) -> bool
-    ensures { result ≡ hasVirt page r }
+    ensures { result ≡ has_virt page r }
 {
     pages::has_page(r.virt, r.size, page.0)
 }
 
 // The first of the `count` regions that has a cell page, or a region of no size.
 fn region_for(table: [MemRegion; MAX_REGIONS], count: usize, page: CellPage) -> MemRegion
-    ensures { result ≡ regionFor page (take count table) }
+    ensures { result ≡ region_for page (take count table) }
 {
     let n = region_table::used(count, MAX_REGIONS);
     let mut i = 0;
@@ -31,7 +31,7 @@ fn region_for(table: [MemRegion; MAX_REGIONS], count: usize, page: CellPage) -> 
 
 // The same of the system's table.
 fn boot_region_for(table: [MemRegion; MAX_BOOT_REGIONS], count: usize, page: CellPage) -> MemRegion
-    ensures { result ≡ regionFor page (take count table) }
+    ensures { result ≡ region_for page (take count table) }
 {
     let n = region_table::used(count, MAX_BOOT_REGIONS);
     let mut i = 0;
@@ -47,7 +47,7 @@ fn boot_region_for(table: [MemRegion; MAX_BOOT_REGIONS], count: usize, page: Cel
 
 // What a region lets its cell do.
 fn access_of(r: MemRegion) -> Access
-    ensures { result ≡ accessOf r }
+    ensures { result ≡ access_of r }
 {
     Access {
         read: r.flags / 1 % 2 == 1,
@@ -58,7 +58,7 @@ fn access_of(r: MemRegion) -> Access
 
 // What a region makes of a cell page.
 fn translate(r: MemRegion, page: CellPage) -> Mapping
-    ensures { result ≡ mappedBy r page }
+    ensures { result ≡ mapped_by r page }
 {
     if !has_virt(r, page) {
         return Mapping::Unmapped;
@@ -74,14 +74,14 @@ fn translate(r: MemRegion, page: CellPage) -> Mapping
 
 // What a cell page is mapped to by the first of the `count` regions that has it.
 fn table_mapping(table: [MemRegion; MAX_REGIONS], count: usize, page: CellPage) -> Mapping
-    ensures { result ≡ cellMapping (take count table) page }
+    ensures { result ≡ cell_mapping (take count table) page }
 {
     translate(region_for(table, count, page), page)
 }
 
 // The same mapping, or nothing where root may not touch its page.
 fn if_touchable(m: Machine, mapping: Mapping) -> Mapping
-    ensures { result ≡ ifTouchable m mapping }
+    ensures { result ≡ if_touchable m mapping }
 {
     match mapping {
         Mapping::Page(page, access) => {
@@ -98,7 +98,7 @@ fn if_touchable(m: Machine, mapping: Mapping) -> Mapping
 
 // What a cell page is mapped to for root.
 fn root_mapping(m: Machine, page: CellPage) -> Mapping
-    ensures { result ≡ rootMapping page m }
+    ensures { result ≡ root_mapping page m }
 {
     let system = m.system;
     let regions = system.regions;
@@ -108,7 +108,7 @@ fn root_mapping(m: Machine, page: CellPage) -> Mapping
 
 // What a cell page is mapped to for a cell; nothing where there is no such cell.
 pub fn mapping_of(m: Machine, id: u64, page: CellPage) -> Mapping
-    ensures { result ≡ mappingOf id page m }
+    ensures { result ≡ mapping_of id page m }
 {
     let power = m.power;
     if !pages::has_booted(power) {

@@ -2,9 +2,9 @@
 ghost use Rattle.std.specs.Prelude.{◌≡◌, take};
 ghost use Rattle.base.specs.Lists.{any};
 ghost use Rattle.machine_state.specs.declared.Machine.{Machine};
-ghost use Rattle.rules.specs.Pages.{hasPage, hasPhys, hasBooted, hypervisorHas, bootHas, ownerOf, isLoading, openToRoot};
-ghost use Rattle.rules.specs.Pages.{rootMayTouch, cellMayTouch, mayTouch};
-ghost use Rattle.pages.specs.Seen.{Sees, Found, ownerBy};
+ghost use Rattle.rules.specs.Pages.{has_page, has_phys, has_booted, hypervisor_has, boot_has, owner_of, is_loading, open_to_root};
+ghost use Rattle.rules.specs.Pages.{root_may_touch, cell_may_touch, may_touch};
+ghost use Rattle.pages.specs.Seen.{Sees, Found, owner_by};
 
 use machine_state::{Cell, MAX_CELLS, Machine, Owner, Phase, PhysPage, Power};
 use region_table::{MAX_BOOT_REGIONS, MAX_REGIONS};
@@ -31,7 +31,7 @@ struct Holders {
 
 // Whether a range of bytes has page `n`; none has one from 2^36 up.
 pub fn has_page(start: u64, size: u64, n: u64) -> bool
-    ensures { result ≡ hasPage start size n }
+    ensures { result ≡ has_page start size n }
 {
     if n >= 0x10_0000_0000 {
         return false;
@@ -45,14 +45,14 @@ pub fn has_page(start: u64, size: u64, n: u64) -> bool
 
 // Whether a region has a physical page.
 fn has_phys(r: MemRegion, page: PhysPage) -> bool
-    ensures { result ≡ hasPhys page r }
+    ensures { result ≡ has_phys page r }
 {
     has_page(r.phys, r.size, page.0)
 }
 
 // Whether the machine was booted; it stays so when it is disabled.
 pub fn has_booted(power: Power) -> bool
-    ensures { result ≡ hasBooted power }
+    ensures { result ≡ has_booted power }
 {
     match power {
         Power::Unbooted => false,
@@ -63,7 +63,7 @@ pub fn has_booted(power: Power) -> bool
 
 // Whether a cell is in loading.
 fn is_loading(phase: Phase) -> bool
-    ensures { result ≡ isLoading phase }
+    ensures { result ≡ is_loading phase }
 {
     match phase {
         Phase::Suspended => false,
@@ -129,7 +129,7 @@ fn look_at_cells(live_ids: u16, cells: [Cell; MAX_CELLS], page: PhysPage) -> Hol
 
 // Whether hypervisor memory has a page.
 fn hypervisor_has(m: Machine, page: PhysPage) -> bool
-    ensures { result ≡ hypervisorHas page m }
+    ensures { result ≡ hypervisor_has page m }
 {
     let system = m.system;
     let memory = system.hypervisor;
@@ -138,7 +138,7 @@ fn hypervisor_has(m: Machine, page: PhysPage) -> bool
 
 // Whether one of the first `count` regions of the system's table has a page.
 fn some_has(table: [MemRegion; MAX_BOOT_REGIONS], count: usize, page: PhysPage) -> bool
-    ensures { result ≡ any (hasPhys page) (take count table) }
+    ensures { result ≡ any (has_phys page) (take count table) }
 {
     let n = region_table::used(count, MAX_BOOT_REGIONS);
     let mut found = false;
@@ -152,7 +152,7 @@ fn some_has(table: [MemRegion; MAX_BOOT_REGIONS], count: usize, page: PhysPage) 
 
 // Whether a boot region has a page.
 fn boot_has(m: Machine, page: PhysPage) -> bool
-    ensures { result ≡ bootHas page m }
+    ensures { result ≡ boot_has page m }
 {
     let system = m.system;
     let regions = system.regions;
@@ -162,7 +162,7 @@ fn boot_has(m: Machine, page: PhysPage) -> bool
 // The owner, by what is found of a page: whether the machine was booted, hypervisor memory has it,
 // the cell that owns it, or 16, whether a cell shares it and a boot region has it.
 fn first_owner(booted: bool, hypervisor: bool, owner: usize, shared: bool, boot: bool) -> Owner
-    ensures { result ≡ ownerBy booted hypervisor owner shared boot }
+    ensures { result ≡ owner_by booted hypervisor owner shared boot }
 {
     if !booted {
         return Owner::Nobody;
@@ -184,7 +184,7 @@ fn first_owner(booted: bool, hypervisor: bool, owner: usize, shared: bool, boot:
 
 // Who owns a physical page.
 pub fn owner_of(m: Machine, page: PhysPage) -> Owner
-    ensures { result ≡ ownerOf page m }
+    ensures { result ≡ owner_of page m }
 {
     let power = m.power;
     let cells = m.cells;
@@ -202,7 +202,7 @@ pub fn owner_of(m: Machine, page: PhysPage) -> Owner
 
 // Whether root may touch the boot pages of this owner, whatever is loaded.
 fn open_to_root(owner: Owner) -> bool
-    ensures { result ≡ openToRoot owner }
+    ensures { result ≡ open_to_root owner }
 {
     match owner {
         Owner::Hypervisor => false,
@@ -215,7 +215,7 @@ fn open_to_root(owner: Owner) -> bool
 
 // Whether root may touch a physical page.
 pub fn root_may_touch(m: Machine, page: PhysPage) -> bool
-    ensures { result ≡ rootMayTouch page m }
+    ensures { result ≡ root_may_touch page m }
 {
     let power = m.power;
     let cells = m.cells;
@@ -225,7 +225,7 @@ pub fn root_may_touch(m: Machine, page: PhysPage) -> bool
 
 // Whether a cell other than root may touch a physical page.
 fn cell_may_touch(m: Machine, id: u64, page: PhysPage) -> bool
-    ensures { result ≡ cellMayTouch page m id }
+    ensures { result ≡ cell_may_touch page m id }
 {
     let power = m.power;
     if !id_set::is_live(m.live_ids, id) {
@@ -240,7 +240,7 @@ fn cell_may_touch(m: Machine, id: u64, page: PhysPage) -> bool
 
 // Whether a cell may touch a physical page.
 pub fn may_touch(m: Machine, id: u64, page: PhysPage) -> bool
-    ensures { result ≡ mayTouch id page m }
+    ensures { result ≡ may_touch id page m }
 {
     if id == 0 {
         root_may_touch(m, page)

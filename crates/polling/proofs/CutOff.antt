@@ -8,54 +8,54 @@ use lib.ListN.{length, length-set}
 use lib.Seq.{get_or-set_same, get_or-set_other}
 use Rattle.machine_state.specs.declared.CommRegion.{CommRegion}
 use Rattle.machine_state.specs.declared.Machine.{Machine}
-use Rattle.machine_state.specs.Machine.{pastComm, maxCells}
-use Rattle.rules.specs.State.{rootId, commAt, stateAt, live, active, isFinal, isLocked, failed, withComm, withCpus}
-use Rattle.rules.specs.Effects.{withState, cpusChanged, cellCutOff}
-use Rattle.rules.specs.Asking.{mayBeMessaged}
+use Rattle.machine_state.specs.Machine.{past_comm, max_cells}
+use Rattle.rules.specs.State.{root_id, comm_at, state_at, live, active, is_final, is_locked, failed, with_comm, with_cpus}
+use Rattle.rules.specs.Effects.{with_state, cpus_changed, cell_cut_off}
+use Rattle.rules.specs.Asking.{may_be_messaged}
 use Rattle.comms.specs.declared.CellSets.{CellSets}
-use Rattle.comms.specs.Sets.{hasLocked, setsWithout}
+use Rattle.comms.specs.Sets.{has_locked, sets_without}
 use Rattle.id_set.proofs.Ids.{dropped-set}
 use Rattle.asking.specs.Moves.{WithSets}
 
 module _ (cell : ℕ) (m : Machine) where
-  cut-other : (id : ℕ) → (id ≡ cell → ⊥) → commAt (cellCutOff cell m) id ≡ commAt m id
-  unfolding cellCutOff cpusChanged withCpus withComm
-  cut-other id n = get_or-set_other m.comms cell id (withState failed (commAt m cell)) pastComm n
+  cut-other : (id : ℕ) → (id ≡ cell → ⊥) → comm_at (cell_cut_off cell m) id ≡ comm_at m id
+  unfolding cell_cut_off cpus_changed with_cpus with_comm
+  cut-other id n = get_or-set_other m.comms cell id (with_state failed (comm_at m cell)) past_comm n
 
-  other-active : (id : ℕ) → (id ≡ cell → ⊥) → active (cellCutOff cell m) id ≡ active m id
-  unfolding active cellCutOff cpusChanged withCpus withComm
-  other-active id n = ap (λ (w : CommRegion). not (eqb id rootId) && live m id && not (isFinal w.cell_state)) (cut-other id n)
+  other-active : (id : ℕ) → (id ≡ cell → ⊥) → active (cell_cut_off cell m) id ≡ active m id
+  unfolding active cell_cut_off cpus_changed with_cpus with_comm
+  other-active id n = ap (λ (w : CommRegion). not (eqb id root_id) && live m id && not (is_final w.cell_state)) (cut-other id n)
 
-  cut-length : length (cellCutOff cell m).comms ≡ length m.comms
-  unfolding cellCutOff cpusChanged withCpus withComm
-  cut-length = length-set m.comms cell (withState failed (commAt m cell))
+  cut-length : length (cell_cut_off cell m).comms ≡ length m.comms
+  unfolding cell_cut_off cpus_changed with_cpus with_comm
+  cut-length = length-set m.comms cell (with_state failed (comm_at m cell))
 
-  module _ (inside : cell < maxCells) (size : length m.comms ≡ maxCells) where
-    pub cut-own : commAt (cellCutOff cell m) cell ≡ withState failed (commAt m cell)
-    unfolding cellCutOff cpusChanged withCpus withComm
-    cut-own = get_or-set_same m.comms cell (withState failed (commAt m cell)) pastComm (omega (arith, inside, size))
+  module _ (inside : cell < max_cells) (size : length m.comms ≡ max_cells) where
+    pub cut-own : comm_at (cell_cut_off cell m) cell ≡ with_state failed (comm_at m cell)
+    unfolding cell_cut_off cpus_changed with_cpus with_comm
+    cut-own = get_or-set_same m.comms cell (with_state failed (comm_at m cell)) past_comm (omega (arith, inside, size))
 
-    own-inactive : active (cellCutOff cell m) cell ≡ false
+    own-inactive : active (cell_cut_off cell m) cell ≡ false
     unfolding active
     own-inactive =
-        ap (λ (w : CommRegion). not (eqb cell rootId) && live (cellCutOff cell m) cell && not (isFinal w.cell_state)) cut-own
-        ∙ none (not (eqb cell rootId)) (live (cellCutOff cell m) cell)
+        ap (λ (w : CommRegion). not (eqb cell root_id) && live (cell_cut_off cell m) cell && not (is_final w.cell_state)) cut-own
+        ∙ none (not (eqb cell root_id)) (live (cell_cut_off cell m) cell)
       where
         none : (a b : Bool) → (a && b && false) ≡ false
         none true true = refl
         none true false = refl
         none false b = refl
 
-    pub cut-sets : (s : CellSets) → WithSets s m → WithSets (setsWithout cell s) (cellCutOff cell m)
-    unfolding setsWithout mayBeMessaged hasLocked
+    pub cut-sets : (s : CellSets) → WithSets s m → WithSets (sets_without cell s) (cell_cut_off cell m)
+    unfolding sets_without may_be_messaged has_locked
     cut-sets s h = record {
       sets = record {
-        messageable = dropped-set cell s.messageable (mayBeMessaged m) (mayBeMessaged (cellCutOff cell m)) h.sets.messageable
-            (ap (λ (b : Bool). b && not (commAt (cellCutOff cell m) cell).passive) own-inactive)
+        messageable = dropped-set cell s.messageable (may_be_messaged m) (may_be_messaged (cell_cut_off cell m)) h.sets.messageable
+            (ap (λ (b : Bool). b && not (comm_at (cell_cut_off cell m) cell).passive) own-inactive)
             (λ k n. ap₂ (λ (b : Bool) (w : CommRegion). b && not w.passive) (other-active k n) (cut-other k n));
-        locked = dropped-set cell s.locked (hasLocked m) (hasLocked (cellCutOff cell m)) h.sets.locked
-            (ap (λ (b : Bool). b && isLocked (stateAt (cellCutOff cell m) cell)) own-inactive)
-            (λ k n. ap₂ (λ (b : Bool) (w : CommRegion). b && isLocked w.cell_state) (other-active k n) (cut-other k n));
+        locked = dropped-set cell s.locked (has_locked m) (has_locked (cell_cut_off cell m)) h.sets.locked
+            (ap (λ (b : Bool). b && is_locked (state_at (cell_cut_off cell m) cell)) own-inactive)
+            (λ k n. ap₂ (λ (b : Bool) (w : CommRegion). b && is_locked w.cell_state) (other-active k n) (cut-other k n));
       };
       size = cut-length ∙ size;
     }

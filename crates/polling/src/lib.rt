@@ -1,10 +1,10 @@
 // A poll of a waiting call: whether the cell waited for is heard, or its reply limit cuts it off, and what
 // follows, decided from its words, the sets of cells and the waiting call alone.
 ghost use Rattle.std.specs.Prelude.{◌≡◌, false, ◌<◌};
-ghost use Rattle.rules.specs.Effects.{cellCutOff};
-ghost use Rattle.rules.specs.Asking.{isHeard, hear as hear-of, isLastPoll, pollCell, poll as poll-of};
+ghost use Rattle.rules.specs.Effects.{cell_cut_off};
+ghost use Rattle.rules.specs.Asking.{is_heard, hear as hear_of, is_last_poll, poll_cell, poll as poll_of};
 ghost use Rattle.asking.specs.Moves.{Hears};
-ghost use Rattle.polling.specs.Polls.{pollLooks, Polls, PollMoves};
+ghost use Rattle.polling.specs.Polls.{poll_looks, Polls, PollMoves};
 
 use asking::{Effect, Move};
 use comms::{CellSets, WordsChange};
@@ -12,7 +12,7 @@ use machine_state::{Answer, CallKind, CommRegion, FAILED, MAX_CELLS, STATE_WORD,
 
 // Whether the poll that comes after `polls` others is the last that a limit allows.
 fn is_last_poll(limit: u16, polls: u16) -> bool
-    ensures { result ≡ isLastPoll limit polls }
+    ensures { result ≡ is_last_poll limit polls }
 {
     !(limit == 0) & (limit as u32 <= polls as u32 + 1)
 }
@@ -27,7 +27,7 @@ pub struct Polled {
 // A poll at which the cell waited for, whose words are `w`, is cut off, and then heard as final.
 fn cut_off(cells: CellSets, w: CommRegion, kind: CallKind, stage: Stage) -> Polled
     requires { stage.cell < 16 }
-    ensures { PollMoves (Hears cells w stage) (λ new m. hear-of kind stage new (cellCutOff stage.cell m)) result }
+    ensures { PollMoves (Hears cells w stage) (λ new m. hear_of kind stage new (cell_cut_off stage.cell m)) result }
 {
     let cell = stage.cell;
     let failed = comms::change_words(w, WordsChange::Store(STATE_WORD, FAILED));
@@ -41,8 +41,8 @@ fn cut_off(cells: CellSets, w: CommRegion, kind: CallKind, stage: Stage) -> Poll
 // A poll that hears nothing from a cell with a limit, whose words are `w`: the last one cuts the cell
 // off, and any other is counted.
 fn unheard(cells: CellSets, w: CommRegion, kind: CallKind, stage: Stage) -> Polled
-    requires { (stage.cell < 16) × (isHeard w ≡ false) × (w.reply_limit ≡ 0 → ⊥) }
-    ensures { PollMoves (Polls cells w (Waiting.Pending kind stage)) (pollCell kind stage) result }
+    requires { (stage.cell < 16) × (is_heard w ≡ false) × (w.reply_limit ≡ 0 → ⊥) }
+    ensures { PollMoves (Polls cells w (Waiting.Pending kind stage)) (poll_cell kind stage) result }
 {
     if is_last_poll(w.reply_limit, stage.polls) {
         return cut_off(cells, w, kind, stage);
@@ -61,7 +61,7 @@ fn unheard(cells: CellSets, w: CommRegion, kind: CallKind, stage: Stage) -> Poll
 
 // A poll of a waiting call: looks at the cell waited for, at whose place the words `w` stand.
 fn poll_cell(cells: CellSets, w: CommRegion, kind: CallKind, stage: Stage) -> Polled
-    ensures { PollMoves (Polls cells w (Waiting.Pending kind stage)) (pollCell kind stage) result }
+    ensures { PollMoves (Polls cells w (Waiting.Pending kind stage)) (poll_cell kind stage) result }
 {
     let cell = stage.cell;
     let limit = w.reply_limit;
@@ -88,7 +88,7 @@ fn poll_cell(cells: CellSets, w: CommRegion, kind: CallKind, stage: Stage) -> Po
 
 // Whether a poll looks at other cells than the one waited for, at whose place the words `w` stand.
 pub fn looks(w: CommRegion, waiting: Waiting) -> bool
-    ensures { result ≡ pollLooks w waiting }
+    ensures { result ≡ poll_looks w waiting }
 {
     match waiting {
         Waiting::NoCall => false,
@@ -101,7 +101,7 @@ pub fn looks(w: CommRegion, waiting: Waiting) -> bool
 // A poll; at the place of the cell waited for, if one is, the words `w` stand. `cells` matter only
 // where the poll looks at them.
 pub fn poll(cells: CellSets, w: CommRegion, waiting: Waiting) -> Polled
-    ensures { PollMoves (Polls cells w waiting) (poll-of waiting) result }
+    ensures { PollMoves (Polls cells w waiting) (poll_of waiting) result }
 {
     match waiting {
         Waiting::NoCall => Polled {

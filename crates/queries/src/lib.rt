@@ -3,11 +3,11 @@
 ghost use Rattle.std.specs.Prelude.{◌≡◌, true, ℕ, ◌-◌, ◌≤◌, get_or};
 ghost use Rattle.cpu_set.specs.CpuSet.{member};
 ghost use Rattle.machine_state.specs.declared.Machine.{Machine};
-ghost use Rattle.rules.specs.State.{bootCpus, commAt, cpuAt};
-ghost use Rattle.rules.specs.Queries.{low31 as low31-of, getInfo, getState, cpuGetInfo};
-ghost use Rattle.rules.specs.Effects.{counted, callCounter};
-ghost use Rattle.cpu_table.specs.CpuTable.{cpuIndex};
-ghost use Rattle.comms.specs.Comms.{cellIndex};
+ghost use Rattle.rules.specs.State.{boot_cpu_set, comm_at, cpu_at};
+ghost use Rattle.rules.specs.Queries.{low31 as low31_of, get_info, get_state, cpu_get_info};
+ghost use Rattle.rules.specs.Effects.{counted, call_counter};
+ghost use Rattle.cpu_table.specs.CpuTable.{cpu_index};
+ghost use Rattle.comms.specs.Comms.{cell_index};
 
 use base::{EINVAL, ENOENT, EPERM};
 use cpu_table::{CALL_COUNTER, CpuChange};
@@ -16,14 +16,14 @@ use system_record::Pool;
 
 // The low 31 bits of a number, as a return code.
 fn low31(n: u32) -> Answer
-    ensures { result ≡ Answer.Code (low31-of n) }
+    ensures { result ≡ Answer.Code (low31_of n) }
 {
     Answer::Code((n % 0x8000_0000) as i32)
 }
 
 // Get Info: a figure of the pools, or the number of cells.
 pub fn get_info(pool: Pool, remap: Pool, pool_used: u32, live_ids: u16, kind: u64) -> Answer
-    ensures { (m : Machine) → m.system.pool ≡ pool → m.system.remap ≡ remap → m.pool_used ≡ pool_used → m.live_ids ≡ live_ids → result ≡ Answer.Code (getInfo kind m) }
+    ensures { (m : Machine) → m.system.pool ≡ pool → m.system.remap ≡ remap → m.pool_used ≡ pool_used → m.live_ids ≡ live_ids → result ≡ Answer.Code (get_info kind m) }
 {
     if kind == 0 {
         return low31(pool.pages);
@@ -45,7 +45,7 @@ pub fn get_info(pool: Pool, remap: Pool, pool_used: u32, live_ids: u16, kind: u6
 
 // Get State of cell `id`, at whose place the words `w` stand.
 pub fn get_state(live_ids: u16, w: CommRegion, id: u64) -> Answer
-    ensures { (m : Machine) → m.live_ids ≡ live_ids → commAt m (cellIndex id) ≡ w → result ≡ Answer.Code (getState id m) }
+    ensures { (m : Machine) → m.live_ids ≡ live_ids → comm_at m (cell_index id) ≡ w → result ≡ Answer.Code (get_state id m) }
 {
     let state = w.cell_state;
     if id == 0 {
@@ -69,7 +69,7 @@ pub fn get_state(live_ids: u16, w: CommRegion, id: u64) -> Answer
 // The counter of an information type from 1000 to 1005.
 fn counter(p: Cpu, kind: u64) -> Answer
     requires { (1000 ≤ kind) × (kind ≤ 1005) }
-    ensures { result ≡ Answer.Code (low31-of (get_or p.counters (kind - 1000) 0)) }
+    ensures { result ≡ Answer.Code (low31_of (get_or p.counters (kind - 1000) 0)) }
 {
     let counters = p.counters;
     let i = (kind - 1000) as usize;
@@ -78,7 +78,7 @@ fn counter(p: Cpu, kind: u64) -> Answer
 
 // CPU Get Info of CPU `asked`, of the boot set, for the CPU `caller`.
 fn cpu_figure(caller: Cpu, asked: Cpu, kind: u64) -> Answer
-    ensures { (m : Machine) (k j : ℕ) → cpuAt m k ≡ caller → cpuAt m j ≡ asked → member j (bootCpus m) ≡ true → result ≡ Answer.Code (cpuGetInfo k j kind m) }
+    ensures { (m : Machine) (k j : ℕ) → cpu_at m k ≡ caller → cpu_at m j ≡ asked → member j (boot_cpu_set m) ≡ true → result ≡ Answer.Code (cpu_get_info k j kind m) }
 {
     if !(caller.cell == 0) & !(asked.cell == caller.cell) {
         return Answer::Code(EPERM);
@@ -98,7 +98,7 @@ fn cpu_figure(caller: Cpu, asked: Cpu, kind: u64) -> Answer
 // CPU Get Info of CPU `asked`, which is `q` if the table has it, for the CPU `caller`, which is `p`
 // before its call is counted.
 pub fn cpu_get_info(boot_cpus: u64, p: Cpu, q: Cpu, caller: u64, asked: u64, kind: u64) -> Answer
-    ensures { (m : Machine) → bootCpus m ≡ boot_cpus → cpuAt m caller ≡ p → cpuAt m (cpuIndex asked) ≡ q → result ≡ Answer.Code (cpuGetInfo caller asked kind (counted callCounter caller m)) }
+    ensures { (m : Machine) → boot_cpu_set m ≡ boot_cpus → cpu_at m caller ≡ p → cpu_at m (cpu_index asked) ≡ q → result ≡ Answer.Code (cpu_get_info caller asked kind (counted call_counter caller m)) }
 {
     if !cpu_set::contains(boot_cpus, asked) {
         return Answer::Code(EINVAL);

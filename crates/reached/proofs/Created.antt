@@ -12,8 +12,8 @@ use Rattle.base.proofs.Tests.{is_true, holds, fails, eq→eqb}
 use Rattle.cpu_set.specs.CpuSet.{member}
 use Rattle.regions.specs.Regions.{comm}
 use Rattle.cell_record.specs.declared.CellConfig.{CellConfig}
-use Rattle.cell_record.specs.CellRecord.{cellRegions}
-use Rattle.rules.specs.Effects.{poolCost}
+use Rattle.cell_record.specs.CellRecord.{cell_regions}
+use Rattle.rules.specs.Effects.{pool_cost}
 use Rattle.reached.proofs.Members.{and_parts, and_both, or_left, or_right, or-either, is-not, not-true, clash, chosen, passed}
 use Rattle.reached.proofs.Table.{Table}
 use Rattle.reached.proofs.Changes.{created}
@@ -25,22 +25,22 @@ module _ (t : Table) (id : ℕ) (new : CellConfig) (s : Sound t) (f : Fits t id 
 
   -- a cell of the new table is the new one, or one from before
   data Cell (i : ℕ) : Type 0 where
-    fresh : i ≡ id → next.config i ≡ new → next.mapped i ≡ any comm (cellRegions new) → Cell i
+    fresh : i ≡ id → next.config i ≡ new → next.mapped i ≡ any comm (cell_regions new) → Cell i
     older : (i ≡ id → ⊥) → IsCell t i → next.config i ≡ t.config i → next.mapped i ≡ t.mapped i → Cell i
 
   view : (i : ℕ) → IsCell next i → Cell i
   view i c = go (eqb i id) refl c.lives
     where
-      go : (b : Bool) → eqb i id ≡ b → (eqb i id || t.isLive i) ≡ true → Cell i
+      go : (b : Bool) → eqb i id ≡ b → (eqb i id || t.is_live i) ≡ true → Cell i
       go true e l = fresh (eqb→eq i id (holds e)) (chosen _ _ e) (chosen _ _ e)
-      go false e l = older (λ q. fails e (eq→eqb i id q)) (record { other = c.other; lives = sym (ap (λ (b : Bool). b || t.isLive i) e) ∙ l }) (passed _ _ e) (passed _ _ e)
+      go false e l = older (λ q. fails e (eq→eqb i id q)) (record { other = c.other; lives = sym (ap (λ (b : Bool). b || t.is_live i) e) ∙ l }) (passed _ _ e) (passed _ _ e)
 
   -- a cell from before is one of the new table
   stays : (i : ℕ) → IsCell t i → IsCell next i
   stays i c = record { other = c.other; lives = or_right (eqb i id) c.lives }
 
   distinct : (i : ℕ) → IsCell t i → i ≡ id → ⊥
-  distinct i c e = clash c.lives (ap t.isLive e ∙ f.free)
+  distinct i c e = clash c.lives (ap t.is_live e ∙ f.free)
 
   config-old : (i : ℕ) → IsCell t i → next.config i ≡ t.config i
   config-old i c = let e : eqb i id ≡ false = not-true (λ q. distinct i c (eqb→eq i id (holds q))) in passed _ _ e
@@ -49,7 +49,7 @@ module _ (t : Table) (id : ℕ) (new : CellConfig) (s : Sound t) (f : Fits t id 
   config-new = let e : eqb id id ≡ true = is_true (eqb id id) (eq→eqb id id refl) in chosen _ _ e
 
   is-new : IsCell next id
-  is-new = record { other = f.other; lives = or_left (t.isLive id) (is_true (eqb id id) (eq→eqb id id refl)) }
+  is-new = record { other = f.other; lives = or_left (t.is_live id) (is_true (eqb id id) (eq→eqb id id refl)) }
 
   -- no other cell has a CPU of the new one's
   not-others : (k i : ℕ) → IsCell t i → Names (t.config i) k → Names new k → ⊥
@@ -66,19 +66,19 @@ module _ (t : Table) (id : ℕ) (new : CellConfig) (s : Sound t) (f : Fits t id 
     accepted = s.accepted;
     pool-small = s.pool-small;
     root-lives = or_right (eqb 0 id) s.root-lives;
-    few = λ i l. live-few i (or-either (eqb i id) (t.isLive i) l);
+    few = λ i l. live-few i (or-either (eqb i id) (t.is_live i) l);
     valid = λ i c. cell-valid i (view i c);
     with-region = λ i c. cell-region i (view i c);
     apart = λ i j c d n. cells-apart i j (view i c) (view j d) n;
-    root-started = λ k r. s.root-started k (and_parts (t.rootHas k) _ r).0;
-    root-free = λ k r i c n. free k (and_parts (t.rootHas k) _ r) i (view i c) n;
+    root-started = λ k r. s.root-started k (and_parts (t.root_has k) _ r).0;
+    root-free = λ k r i c n. free k (and_parts (t.root_has k) _ r) i (view i c) n;
     root-rest = λ k b none. rest k b none;
     cell-owns = λ k i c n. owns k i (view i c) n;
-    root-owns = λ k r. root k (and_parts (t.rootHas k) _ r);
+    root-owns = λ k r. root k (and_parts (t.root_has k) _ r);
     pool-fits = fits;
   }
     where
-      live-few : (i : ℕ) → (eqb i id ≡ true) ⊎ (t.isLive i ≡ true) → i < 16
+      live-few : (i : ℕ) → (eqb i id ≡ true) ⊎ (t.is_live i ≡ true) → i < 16
       live-few i (inl e) = subst (λ (n : ℕ). n < 16) (sym (eqb→eq i id (holds e))) f.below
       live-few i (inr l) = s.few i l
 
@@ -86,9 +86,9 @@ module _ (t : Table) (id : ℕ) (new : CellConfig) (s : Sound t) (f : Fits t id 
       cell-valid i (fresh e q w) = subst (Valid t.system) (sym q) f.valid
       cell-valid i (older e c q w) = subst (Valid t.system) (sym q) (s.valid i c)
 
-      cell-region : (i : ℕ) → Cell i → next.mapped i ≡ any comm (cellRegions (next.config i))
-      cell-region i (fresh e q w) = w ∙ ap (λ (c : CellConfig). any comm (cellRegions c)) (sym q)
-      cell-region i (older e c q w) = w ∙ s.with-region i c ∙ ap (λ (c : CellConfig). any comm (cellRegions c)) (sym q)
+      cell-region : (i : ℕ) → Cell i → next.mapped i ≡ any comm (cell_regions (next.config i))
+      cell-region i (fresh e q w) = w ∙ ap (λ (c : CellConfig). any comm (cell_regions c)) (sym q)
+      cell-region i (older e c q w) = w ∙ s.with-region i c ∙ ap (λ (c : CellConfig). any comm (cell_regions c)) (sym q)
 
       cells-apart : (i j : ℕ) → Cell i → Cell j → (i ≡ j → ⊥) → Clear (next.config i) (next.config j)
       cells-apart i j (fresh e q w) (fresh e2 q2 w2) n = absurd (n (e ∙ sym e2))
@@ -96,12 +96,12 @@ module _ (t : Table) (id : ℕ) (new : CellConfig) (s : Sound t) (f : Fits t id 
       cells-apart i j (older e c q w) (fresh e2 q2 w2) n = clear_both _ _ _ _ q q2 (clear-new i c)
       cells-apart i j (older e c q w) (older e2 d q2 w2) n = clear_both _ _ _ _ q q2 (s.apart i j c d n)
 
-      free : (k : ℕ) → (t.rootHas k ≡ true) × (not (member k new.cpus) ≡ true) → (i : ℕ) → Cell i → Names (next.config i) k → ⊥
+      free : (k : ℕ) → (t.root_has k ≡ true) × (not (member k new.cpus) ≡ true) → (i : ℕ) → Cell i → Names (next.config i) k → ⊥
       free k r i (fresh e q w) n = clash (subst (λ (c : CellConfig). Names c k) q n) (is-not (member k new.cpus) r.1)
       free k r i (older e c q w) n = s.root-free k r.0 i c (subst (λ (c : CellConfig). Names c k) q n)
 
       rest : (k : ℕ) → member k t.system.cpus ≡ true → ((i : ℕ) → IsCell next i → Names (next.config i) k → ⊥)
-          → (t.rootHas k && not (member k new.cpus)) ≡ true
+          → (t.root_has k && not (member k new.cpus)) ≡ true
       rest k b none =
           let unnamed : member k new.cpus ≡ false = not-true (λ n. none id is-new (subst (λ (c : CellConfig). Names c k) (sym config-new) n)) in
           and_both
@@ -115,11 +115,11 @@ module _ (t : Table) (id : ℕ) (new : CellConfig) (s : Sound t) (f : Fits t id 
           let kept : member k new.cpus ≡ false = not-true (λ w. not-others k i c named w) in
           passed _ _ kept ∙ s.cell-owns k i c named
 
-      root : (k : ℕ) → (t.rootHas k ≡ true) × (not (member k new.cpus) ≡ true) → next.owner k ≡ 0
+      root : (k : ℕ) → (t.root_has k ≡ true) × (not (member k new.cpus) ≡ true) → next.owner k ≡ 0
       root k r = let kept : member k new.cpus ≡ false = is-not (member k new.cpus) r.1 in passed _ _ kept ∙ s.root-owns k r.0
 
-      small : (t.pool + poolCost new.region_count) % 2 ^ 32 ≡ t.pool + poolCost new.region_count
+      small : (t.pool + pool_cost new.region_count) % 2 ^ 32 ≡ t.pool + pool_cost new.region_count
       small = mod-eq_of_lt (omega (arith, f.room, s.pool-small))
 
-      fits : (t.pool + poolCost new.region_count) % 2 ^ 32 ≤ t.system.pool.pages
+      fits : (t.pool + pool_cost new.region_count) % 2 ^ 32 ≤ t.system.pool.pages
       fits = subst (λ (n : ℕ). n ≤ t.system.pool.pages) (sym small) f.room

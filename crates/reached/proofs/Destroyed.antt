@@ -10,7 +10,7 @@ use Rattle.base.proofs.Tests.{holds, fails, eq→eqb}
 use Rattle.cpu_set.specs.CpuSet.{member}
 use Rattle.regions.specs.Regions.{comm}
 use Rattle.cell_record.specs.declared.CellConfig.{CellConfig}
-use Rattle.cell_record.specs.CellRecord.{cellRegions}
+use Rattle.cell_record.specs.CellRecord.{cell_regions}
 use Rattle.reached.proofs.Members.{and_parts, and_both, or_left, or_right, or-either, is-not, not-true, clash, chosen, passed}
 use Rattle.reached.proofs.Table.{Table}
 use Rattle.reached.proofs.Changes.{destroyed}
@@ -29,7 +29,7 @@ module _ (t : Table) (id : ℕ) (s : Sound t) (target : IsCell t id) where
 
   pub left : (i : ℕ) → IsCell rest i → Left i
   left i c =
-      let parts : (not (eqb i id) ≡ true) × (t.isLive i ≡ true) = and_parts (not (eqb i id)) (t.isLive i) c.lives in
+      let parts : (not (eqb i id) ≡ true) × (t.is_live i ≡ true) = and_parts (not (eqb i id)) (t.is_live i) c.lives in
       let e : eqb i id ≡ false = is-not (eqb i id) parts.0 in
       record {
         distinct = λ q. fails e (eq→eqb i id q);
@@ -55,14 +55,14 @@ module _ (t : Table) (id : ℕ) (s : Sound t) (target : IsCell t id) where
     accepted = s.accepted;
     pool-small = s.pool-small;
     root-lives = and_both (ap not (not-true {a = eqb 0 id} (λ q. target.other (sym (eqb→eq 0 id (holds q)))))) s.root-lives;
-    few = λ i l. s.few i (and_parts (not (eqb i id)) (t.isLive i) l).1;
+    few = λ i l. s.few i (and_parts (not (eqb i id)) (t.is_live i) l).1;
     valid = λ i c. let l = left i c in subst (Valid t.system) (sym l.config) (s.valid i l.before);
     with-region = λ i c.
-        let l = left i c in l.mapped ∙ s.with-region i l.before ∙ ap (λ (c : CellConfig). any comm (cellRegions c)) (sym l.config);
+        let l = left i c in l.mapped ∙ s.with-region i l.before ∙ ap (λ (c : CellConfig). any comm (cell_regions c)) (sym l.config);
     apart = λ i j c d n.
         let l = left i c in let r = left j d in clear_both _ _ _ _ l.config r.config (s.apart i j l.before r.before n);
-    root-started = λ k r. started k (or-either (t.rootHas k) (member k (t.config id).cpus) r);
-    root-free = λ k r i c n. free k (or-either (t.rootHas k) (member k (t.config id).cpus) r) i (left i c) n;
+    root-started = λ k r. started k (or-either (t.root_has k) (member k (t.config id).cpus) r);
+    root-free = λ k r i c n. free k (or-either (t.root_has k) (member k (t.config id).cpus) r) i (left i c) n;
     root-rest = λ k b none. all-else k b none (member k (t.config id).cpus) refl;
     cell-owns = λ k i c n.
         let l = left i c in
@@ -72,17 +72,17 @@ module _ (t : Table) (id : ℕ) (s : Sound t) (target : IsCell t id) where
     pool-fits = omega (arith, s.pool-fits);
   }
     where
-      started : (k : ℕ) → (t.rootHas k ≡ true) ⊎ Names (t.config id) k → member k t.system.cpus ≡ true
+      started : (k : ℕ) → (t.root_has k ≡ true) ⊎ Names (t.config id) k → member k t.system.cpus ≡ true
       started k (inl r) = s.root-started k r
       started k (inr n) = subset-member _ _ k (s.valid id target).started n
 
-      free : (k : ℕ) → (t.rootHas k ≡ true) ⊎ Names (t.config id) k → (i : ℕ) → Left i → Names (rest.config i) k → ⊥
+      free : (k : ℕ) → (t.root_has k ≡ true) ⊎ Names (t.config id) k → (i : ℕ) → Left i → Names (rest.config i) k → ⊥
       free k (inl r) i l n = s.root-free k r i l.before (named k i l n)
       free k (inr m) i l n = not-target k i l (named k i l n) m
 
       all-else : (k : ℕ) → member k t.system.cpus ≡ true → ((i : ℕ) → IsCell rest i → Names (rest.config i) k → ⊥)
-          → (b : Bool) → member k (t.config id).cpus ≡ b → (t.rootHas k || member k (t.config id).cpus) ≡ true
-      all-else k b none true e = or_right (t.rootHas k) e
+          → (b : Bool) → member k (t.config id).cpus ≡ b → (t.root_has k || member k (t.config id).cpus) ≡ true
+      all-else k b none true e = or_right (t.root_has k) e
       all-else k b none false e =
           or_left (member k (t.config id).cpus)
           (s.root-rest k b (λ i c n. none i (remains i c (other i n)) (still i c n)))
@@ -93,10 +93,10 @@ module _ (t : Table) (id : ℕ) (s : Sound t) (target : IsCell t id) where
           still : (i : ℕ) → IsCell t i → Names (t.config i) k → Names (rest.config i) k
           still i c n = subst (λ (c : CellConfig). Names c k) (sym (left i (remains i c (other i n))).config) n
 
-      root : (k : ℕ) → (t.rootHas k || member k (t.config id).cpus) ≡ true → (b : Bool) → member k (t.config id).cpus ≡ b → rest.owner k ≡ 0
+      root : (k : ℕ) → (t.root_has k || member k (t.config id).cpus) ≡ true → (b : Bool) → member k (t.config id).cpus ≡ b → rest.owner k ≡ 0
       root k r true e = chosen _ _ e
-      root k r false e = passed _ _ e ∙ s.root-owns k (by-root (or-either (t.rootHas k) (member k (t.config id).cpus) r))
+      root k r false e = passed _ _ e ∙ s.root-owns k (by-root (or-either (t.root_has k) (member k (t.config id).cpus) r))
         where
-          by-root : (t.rootHas k ≡ true) ⊎ Names (t.config id) k → t.rootHas k ≡ true
+          by-root : (t.root_has k ≡ true) ⊎ Names (t.config id) k → t.root_has k ≡ true
           by-root (inl q) = q
           by-root (inr n) = absurd (clash n e)

@@ -80,7 +80,7 @@ module _ {A : Type 0} where
   -- an element that passes, where some does
   pub record Passes (p : A → Bool) (xs : List A) : Type 0 where
     pub element : A
-    pub isIn : Memᴰ element xs
+    pub is_in : Memᴰ element xs
     pub passes : p element ≡ true
 
   pub some_of : (p : A → Bool) (xs : List A) → any p xs ≡ true → Passes p xs
@@ -89,8 +89,8 @@ module _ {A : Type 0} where
   some_of p (y ∷ ys) e = go (or-either (p y) (any p ys) e) (some_of p ys)
     where
       go : (p y ≡ true) ⊎ (any p ys ≡ true) → (any p ys ≡ true → Passes p ys) → Passes p (y ∷ ys)
-      go (inl t) more = record { element = y; isIn = Memᴰ.head refl; passes = t }
-      go (inr t) more = record { element = (more t).element; isIn = Memᴰ.tail (more t).isIn; passes = (more t).passes }
+      go (inl t) more = record { element = y; is_in = Memᴰ.head refl; passes = t }
+      go (inr t) more = record { element = (more t).element; is_in = Memᴰ.tail (more t).is_in; passes = (more t).passes }
 
   -- two elements of a list whose elements are pairwise so: one of them before the other, or they are the same
   pub pair_of : (p : A → A → Bool) (xs : List A) → pairwise p xs ≡ true → (x y : A) → Memᴰ x xs → Memᴰ y xs

@@ -15,12 +15,12 @@ use Rattle.cell_record.specs.CellRecord.{cell_of}
 use Rattle.machine_state.specs.declared.Power.{Power}
 use Rattle.machine_state.specs.declared.Power.TheVariants.{Disabled}
 use Rattle.machine_state.specs.declared.Machine.{Machine}
-use Rattle.rules.specs.State.{live, cellIds, withPower}
-use Rattle.rules.specs.Unobeyed.{isOn}
-use Rattle.rules.specs.Create.{freeId}
-use Rattle.rules.specs.Effects.{poolCost, cellCreated, cellDestroyed, allDestroyed, disabled}
+use Rattle.rules.specs.State.{live, cell_ids, with_power}
+use Rattle.rules.specs.Unobeyed.{is_on}
+use Rattle.rules.specs.Create.{free_id}
+use Rattle.rules.specs.Effects.{pool_cost, cell_created, cell_destroyed, all_destroyed, disabled}
 use Rattle.rules.proofs.Ids.{by-test, first-same}
-use Rattle.history.specs.History.{Created, hasCell, recordBrought, cellsBut, smallestFree}
+use Rattle.history.specs.History.{Created, has_cell, record_brought, cells_but, smallest_free}
 use Rattle.reached.specs.Pool.{costs}
 use Rattle.reached.proofs.Members.{and_parts, is-not, clash, chosen, passed}
 use Rattle.reached.proofs.Table.{Table, table_of}
@@ -34,12 +34,12 @@ use Rattle.system_record.specs.declared.SystemConfig.{SystemConfig}
 -- `boot` is what the system record said
 module _ (boot : SystemConfig) where
   pub record Follows (cs : List Created) (t : Table) : Type 0 where
-    pub lives : (id : ℕ) → (id ≡ 0 → ⊥) → t.isLive id ≡ hasCell id cs
-    pub no-root : hasCell 0 cs ≡ false
-    pub records : (id : ℕ) → hasCell id cs ≡ true → t.config id ≡ recordBrought id cs
+    pub lives : (id : ℕ) → (id ≡ 0 → ⊥) → t.is_live id ≡ has_cell id cs
+    pub no-root : has_cell 0 cs ≡ false
+    pub records : (id : ℕ) → has_cell id cs ≡ true → t.config id ≡ record_brought id cs
     pub distinct : Distinct cs
     pub pool : t.pool ≡ t.system.pool.used + costs cs
-    pub off : isOn t.power ≡ false → cs ≡ []
+    pub off : is_on t.power ≡ false → cs ≡ []
     pub booted : t.system ≡ boot
 
   pub record Settled (cs : List Created) (t : Table) : Type 0 where
@@ -48,14 +48,14 @@ module _ (boot : SystemConfig) where
 
   -- ---- Create
 
-  module _ (cs : List Created) (t : Table) (id : ℕ) (bytes : List ℕ) (h : Settled cs t) (f : Fits t id (cell_of bytes)) (on : isOn t.power ≡ true) where
+  module _ (cs : List Created) (t : Table) (id : ℕ) (bytes : List ℕ) (h : Settled cs t) (f : Fits t id (cell_of bytes)) (on : is_on t.power ≡ true) where
     abbrev new : Created
     new = record { id = id; bytes = bytes }
 
     abbrev more : List Created
     more = new ∷ cs
 
-    absent : hasCell id cs ≡ false
+    absent : has_cell id cs ≡ false
     absent = sym (h.follows.lives id f.other) ∙ f.free
 
     swap : (a b : ℕ) → eqb a b ≡ eqb b a
@@ -65,10 +65,10 @@ module _ (boot : SystemConfig) where
         go true e = sym (ap (λ (n : ℕ). eqb n a) (sym (eqb→eq a b (holds e))) ∙ equal a)
         go false e = sym (unequal (λ q. fails e (eq→eqb a b (sym q))))
 
-    record-at : (k : ℕ) → hasCell k more ≡ true → (b : Bool) → eqb id k ≡ b → (created id (cell_of bytes) t).config k ≡ recordBrought k more
+    record-at : (k : ℕ) → has_cell k more ≡ true → (b : Bool) → eqb id k ≡ b → (created id (cell_of bytes) t).config k ≡ record_brought k more
     record-at k l true e = chosen _ _ (swap k id ∙ e) ∙ sym (record-first new cs k e)
     record-at k l false e =
-        let old : hasCell k cs ≡ true = sym (has_first new cs k ∙ ap (λ (b : Bool). b || hasCell k cs) e) ∙ l in
+        let old : has_cell k cs ≡ true = sym (has_first new cs k ∙ ap (λ (b : Bool). b || has_cell k cs) e) ∙ l in
         passed _ _ (swap k id ∙ e) ∙ h.follows.records k old ∙ sym (record-later new cs k e)
 
     pub settled-created : Settled more (created id (cell_of bytes) t)
@@ -77,12 +77,12 @@ module _ (boot : SystemConfig) where
       sound = sound-created t id (cell_of bytes) h.sound f;
       follows = record {
         lives = λ k n.
-            ap (λ (b : Bool). b || t.isLive k) (swap k id) ∙ ap (λ (b : Bool). eqb id k || b) (h.follows.lives k n) ∙ sym (has_first new cs k);
-        no-root = has_first new cs 0 ∙ ap (λ (b : Bool). b || hasCell 0 cs) (unequal f.other) ∙ h.follows.no-root;
+            ap (λ (b : Bool). b || t.is_live k) (swap k id) ∙ ap (λ (b : Bool). eqb id k || b) (h.follows.lives k n) ∙ sym (has_first new cs k);
+        no-root = has_first new cs 0 ∙ ap (λ (b : Bool). b || has_cell 0 cs) (unequal f.other) ∙ h.follows.no-root;
         records = λ k l. record-at k l (eqb id k) refl;
         distinct = (absent, h.follows.distinct);
         pool =
-            let small : t.pool + poolCost (cell_of bytes).region_count < 2 ^ 32 = omega (arith, f.room, h.sound.pool-small) in
+            let small : t.pool + pool_cost (cell_of bytes).region_count < 2 ^ 32 = omega (arith, f.room, h.sound.pool-small) in
             let sum : t.pool ≡ t.system.pool.used + costs cs = h.follows.pool in
             mod-eq_of_lt small ∙ omega arith;
         off = λ e. absurd (clash on e);
@@ -93,18 +93,18 @@ module _ (boot : SystemConfig) where
   -- ---- Destroy
 
   module _ (cs : List Created) (t : Table) (id : ℕ) (h : Settled cs t) (target : IsCell t id) where
-    present : hasCell id cs ≡ true
+    present : has_cell id cs ≡ true
     present = sym (h.follows.lives id target.other) ∙ target.lives
 
-    left-cells : (k : ℕ) → hasCell k (cellsBut id cs) ≡ true → (not (eqb k id) ≡ true) × (hasCell k cs ≡ true)
-    left-cells k l = and_parts (not (eqb k id)) (hasCell k cs) (sym (has-without id cs k) ∙ l)
+    left-cells : (k : ℕ) → has_cell k (cells_but id cs) ≡ true → (not (eqb k id) ≡ true) × (has_cell k cs ≡ true)
+    left-cells k l = and_parts (not (eqb k id)) (has_cell k cs) (sym (has-without id cs k) ∙ l)
 
-    emptied : (b : Bool) → (not b && hasCell 0 cs) ≡ false
+    emptied : (b : Bool) → (not b && has_cell 0 cs) ≡ false
     emptied true = refl
     emptied false = h.follows.no-root
 
-    pub settled-destroyed : Settled (cellsBut id cs) (destroyed id t)
-    unfolding cellsBut
+    pub settled-destroyed : Settled (cells_but id cs) (destroyed id t)
+    unfolding cells_but
     settled-destroyed = record {
       sound = sound-destroyed t id h.sound target;
       follows = record {
@@ -116,41 +116,41 @@ module _ (boot : SystemConfig) where
             passed _ _ other ∙ h.follows.records k parts.1 ∙ sym (record-without id cs k (λ q. fails other (eq→eqb k id q)));
         distinct = distinct_without id cs h.follows.distinct;
         pool =
-            let back : costs (cellsBut id cs) + poolCost (recordBrought id cs).region_count ≡ costs cs = costs-without id cs h.follows.distinct present in
-            let kept : (t.config id).region_count ≡ (recordBrought id cs).region_count =
+            let back : costs (cells_but id cs) + pool_cost (record_brought id cs).region_count ≡ costs cs = costs-without id cs h.follows.distinct present in
+            let kept : (t.config id).region_count ≡ (record_brought id cs).region_count =
             ap (λ (c : CellConfig). c.region_count) (h.follows.records id present) in
             let sum : t.pool ≡ t.system.pool.used + costs cs = h.follows.pool in
             omega arith;
-        off = λ e. ap (cellsBut id) (h.follows.off e);
+        off = λ e. ap (cells_but id) (h.follows.off e);
         booted = h.follows.booted;
       };
     }
 
   -- ---- on the machine
 
-  pub after-create : (cs : List Created) (m : Machine) (id : ℕ) (bytes : List ℕ) → Settled cs (table_of m) → Fits (table_of m) id (cell_of bytes) → isOn m.power ≡ true
-      → Settled (record { id = id; bytes = bytes } ∷ cs) (table_of (cellCreated id (cell_of bytes) m))
+  pub after-create : (cs : List Created) (m : Machine) (id : ℕ) (bytes : List ℕ) → Settled cs (table_of m) → Fits (table_of m) id (cell_of bytes) → is_on m.power ≡ true
+      → Settled (record { id = id; bytes = bytes } ∷ cs) (table_of (cell_created id (cell_of bytes) m))
   after-create cs m id bytes h f on =
       subst (Settled (record { id = id; bytes = bytes } ∷ cs))
       (sym (created-table id (cell_of bytes) m f.below h.sound.cells-room h.sound.comms-room h.sound.cpus-room))
       (settled-created cs (table_of m) id bytes h f on)
 
-  pub after-destroy : (cs : List Created) (m : Machine) (id : ℕ) → Settled cs (table_of m) → IsCell (table_of m) id → Settled (cellsBut id cs) (table_of (cellDestroyed id m))
+  pub after-destroy : (cs : List Created) (m : Machine) (id : ℕ) → Settled cs (table_of m) → IsCell (table_of m) id → Settled (cells_but id cs) (table_of (cell_destroyed id m))
   after-destroy cs m id h c =
-      subst (Settled (cellsBut id cs))
+      subst (Settled (cells_but id cs))
       (sym (destroyed-table id m (h.sound.few id c.lives) h.sound.cells-room h.sound.comms-room h.sound.cpus-room))
       (settled-destroyed cs (table_of m) id h c)
 
   -- what is live after Destroy was live before, and is not its target
-  pub live-after : (m : Machine) (id : ℕ) (h : Sound (table_of m)) → IsCell (table_of m) id → (k : ℕ) → live (cellDestroyed id m) k ≡ (not (eqb k id) && live m k)
+  pub live-after : (m : Machine) (id : ℕ) (h : Sound (table_of m)) → IsCell (table_of m) id → (k : ℕ) → live (cell_destroyed id m) k ≡ (not (eqb k id) && live m k)
   live-after m id h c k =
-      ap (λ (t : Table). t.isLive k) (destroyed-table id m (h.few id c.lives) h.cells-room h.comms-room h.cpus-room)
+      ap (λ (t : Table). t.is_live k) (destroyed-table id m (h.few id c.lives) h.cells-room h.comms-room h.cpus-room)
 
   -- the new ID is the smallest that the history has free
-  pub same-free : (cs : List Created) (m : Machine) → Settled cs (table_of m) → freeId m ≡ smallestFree cs
-  unfolding freeId smallestFree
+  pub same-free : (cs : List Created) (m : Machine) → Settled cs (table_of m) → free_id m ≡ smallest_free cs
+  unfolding free_id smallest_free
   same-free cs m h =
-      first-same (λ id. not (live m id)) (λ id. not (hasCell id cs)) 1 15
+      first-same (λ id. not (live m id)) (λ id. not (has_cell id cs)) 1 15
       (λ id l. ap not (h.follows.lives id (λ q. absurd (omega (arith, l, q)))))
 
   -- ---- Disable
@@ -162,19 +162,19 @@ module _ (boot : SystemConfig) where
     was : (i : ℕ) → live after i ≡ true → live m i ≡ true
     none : (i : ℕ) → k ≤ i → i < k + n → live after i ≡ true → ⊥
 
-  gone : (k n : ℕ) (m : Machine) (cs : List Created) → 0 < k → Settled cs (table_of m) → Gone k n m (allDestroyed (from k n) m)
-  unfolding allDestroyed from
+  gone : (k n : ℕ) (m : Machine) (cs : List Created) → 0 < k → Settled cs (table_of m) → Gone k n m (all_destroyed (from k n) m)
+  unfolding all_destroyed from
   gone k zero m cs p h = record { cells = cs; settled = h; was = λ i l. l; none = λ i low high l. omega arith }
   gone k (suc n) m cs p h =
-      by-test (Gone k (suc n) m) (live m k) (allDestroyed (from (suc k) n) (cellDestroyed k m)) (allDestroyed (from (suc k) n) m)
-      (λ l. dropped (target l) (gone (suc k) n (cellDestroyed k m) (cellsBut k cs) (omega arith) (after-destroy cs m k h (target l))))
+      by-test (Gone k (suc n) m) (live m k) (all_destroyed (from (suc k) n) (cell_destroyed k m)) (all_destroyed (from (suc k) n) m)
+      (λ l. dropped (target l) (gone (suc k) n (cell_destroyed k m) (cells_but k cs) (omega arith) (after-destroy cs m k h (target l))))
       (λ l. passed-by l (gone (suc k) n m cs (omega arith) h))
     where
       target : live m k ≡ true → IsCell (table_of m) k
       target l = record { other = λ q. omega arith; lives = l }
 
-      dropped : IsCell (table_of m) k → Gone (suc k) n (cellDestroyed k m) (allDestroyed (from (suc k) n) (cellDestroyed k m))
-          → Gone k (suc n) m (allDestroyed (from (suc k) n) (cellDestroyed k m))
+      dropped : IsCell (table_of m) k → Gone (suc k) n (cell_destroyed k m) (all_destroyed (from (suc k) n) (cell_destroyed k m))
+          → Gone k (suc n) m (all_destroyed (from (suc k) n) (cell_destroyed k m))
       dropped c g = record {
         cells = g.cells;
         settled = g.settled;
@@ -182,14 +182,14 @@ module _ (boot : SystemConfig) where
         none = λ i low high l. here i low high l (ℕ_discrete i k);
       }
         where
-          parts : (i : ℕ) → live (allDestroyed (from (suc k) n) (cellDestroyed k m)) i ≡ true → (not (eqb i k) ≡ true) × (live m i ≡ true)
+          parts : (i : ℕ) → live (all_destroyed (from (suc k) n) (cell_destroyed k m)) i ≡ true → (not (eqb i k) ≡ true) × (live m i ≡ true)
           parts i l = and_parts (not (eqb i k)) (live m i) (sym (live-after m k h.sound c i) ∙ g.was i l)
 
-          here : (i : ℕ) → k ≤ i → i < k + suc n → live (allDestroyed (from (suc k) n) (cellDestroyed k m)) i ≡ true → Dec (i ≡ k) → ⊥
+          here : (i : ℕ) → k ≤ i → i < k + suc n → live (all_destroyed (from (suc k) n) (cell_destroyed k m)) i ≡ true → Dec (i ≡ k) → ⊥
           here i low high l (yes q) = fails (is-not (eqb i k) (parts i l).0) (eq→eqb i k q)
           here i low high l (no q) = g.none i (omega arith) (omega arith) l
 
-      passed-by : live m k ≡ false → Gone (suc k) n m (allDestroyed (from (suc k) n) m) → Gone k (suc n) m (allDestroyed (from (suc k) n) m)
+      passed-by : live m k ≡ false → Gone (suc k) n m (all_destroyed (from (suc k) n) m) → Gone k (suc n) m (all_destroyed (from (suc k) n) m)
       passed-by e g = record {
         cells = g.cells;
         settled = g.settled;
@@ -197,7 +197,7 @@ module _ (boot : SystemConfig) where
         none = λ i low high l. here i low high l (ℕ_discrete i k);
       }
         where
-          here : (i : ℕ) → k ≤ i → i < k + suc n → live (allDestroyed (from (suc k) n) m) i ≡ true → Dec (i ≡ k) → ⊥
+          here : (i : ℕ) → k ≤ i → i < k + suc n → live (all_destroyed (from (suc k) n) m) i ≡ true → Dec (i ≡ k) → ⊥
           here i low high l (yes q) = clash (g.was i l) (ap (live m) q ∙ e)
           here i low high l (no q) = g.none i (omega arith) (omega arith) l
 
@@ -205,12 +205,12 @@ module _ (boot : SystemConfig) where
   no_cells : (cs : List Created) (t : Table) → Settled cs t → ((i : ℕ) → IsCell t i → ⊥) → cs ≡ []
   no_cells [] t h none = refl
   no_cells (c ∷ cs) t h none =
-      let here : hasCell c.id (c ∷ cs) ≡ true = has_first c cs c.id ∙ ap (λ (b : Bool). b || hasCell c.id cs) (equal c.id) in
-      let other : c.id ≡ 0 → ⊥ = λ q. clash here (ap (λ (n : ℕ). hasCell n (c ∷ cs)) q ∙ h.follows.no-root) in
+      let here : has_cell c.id (c ∷ cs) ≡ true = has_first c cs c.id ∙ ap (λ (b : Bool). b || has_cell c.id cs) (equal c.id) in
+      let other : c.id ≡ 0 → ⊥ = λ q. clash here (ap (λ (n : ℕ). has_cell n (c ∷ cs)) q ∙ h.follows.no-root) in
       absurd (none c.id (record { other = other; lives = h.follows.lives c.id other ∙ here }))
 
-  with-power : (p : Power) (m : Machine) → Sound (table_of m) → Sound (table_of (withPower p m))
-  unfolding withPower
+  with-power : (p : Power) (m : Machine) → Sound (table_of m) → Sound (table_of (with_power p m))
+  unfolding with_power
   with-power p m s = record {
     cells-room = s.cells-room;
     comms-room = s.comms-room;
@@ -230,22 +230,22 @@ module _ (boot : SystemConfig) where
     pool-fits = s.pool-fits;
   }
     where
-      as_before : (i : ℕ) → IsCell (table_of (withPower p m)) i → IsCell (table_of m) i
+      as_before : (i : ℕ) → IsCell (table_of (with_power p m)) i → IsCell (table_of m) i
       as_before i c = record { other = c.other; lives = c.lives }
 
-      as-after : (i : ℕ) → IsCell (table_of m) i → IsCell (table_of (withPower p m)) i
+      as-after : (i : ℕ) → IsCell (table_of m) i → IsCell (table_of (with_power p m)) i
       as-after i c = record { other = c.other; lives = c.lives }
 
-  pub after-disable : (cs : List Created) (m : Machine) → Settled cs (table_of m) → Settled [] (table_of (disabled m))
-  unfolding disabled withPower
-  after-disable cs m h =
-      let g : Gone 1 15 m (allDestroyed cellIds m) = gone 1 15 m cs (omega arith) h in
+  pub after_disable : (cs : List Created) (m : Machine) → Settled cs (table_of m) → Settled [] (table_of (disabled m))
+  unfolding disabled with_power
+  after_disable cs m h =
+      let g : Gone 1 15 m (all_destroyed cell_ids m) = gone 1 15 m cs (omega arith) h in
       let empty : g.cells ≡ [] =
       no_cells g.cells _ g.settled
       (λ i c. g.none i (positive i c.other) (g.settled.sound.few i c.lives) c.lives) in
-      let s : Settled [] (table_of (allDestroyed cellIds m)) = subst (λ (l : List Created). Settled l (table_of (allDestroyed cellIds m))) empty g.settled in
+      let s : Settled [] (table_of (all_destroyed cell_ids m)) = subst (λ (l : List Created). Settled l (table_of (all_destroyed cell_ids m))) empty g.settled in
       record {
-        sound = with-power Disabled (allDestroyed cellIds m) s.sound;
+        sound = with-power Disabled (all_destroyed cell_ids m) s.sound;
         follows = record {
           lives = s.follows.lives;
           no-root = s.follows.no-root;

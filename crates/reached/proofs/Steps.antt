@@ -5,7 +5,7 @@ use mathlib.Core.List.{List, []}
 use Prim.Native.Nat.{ℕ}
 use lib.Dec.{leb, eqb, eqb→eq}
 use lib.IntN.{ℤ, pos, negsuc}
-use Rattle.base.specs.Rules.{firstRule, EPERM}
+use Rattle.base.specs.Rules.{first_rule, EPERM}
 use Rattle.base.proofs.Rules.{by-rule, by-none}
 use Rattle.base.proofs.Tests.{holds, fails, eq→eqb}
 use Rattle.cell_record.specs.declared.CellConfig.{CellConfig}
@@ -19,23 +19,23 @@ use Rattle.machine_state.specs.declared.Answer.{Answer}
 use Rattle.machine_state.specs.declared.Answer.TheVariants.{Code, Wait, Done, Off, Bad, Stopped, Held, Denied, Idle}
 use Rattle.machine_state.specs.declared.Machine.{Machine}
 use Rattle.machine_state.specs.declared.Stepped.{Stepped}
-use Rattle.rules.specs.State.{rootId, commAt, cpuAt, live, waits, withWaiting, answered}
-use Rattle.rules.specs.Unobeyed.{isOn}
-use Rattle.rules.specs.Create.{freeId}
-use Rattle.rules.specs.Asking.{asks, finished, ask, consents, hear, withPolls, hearsAt, heardAt, stillWaits, pollCell, poll}
-use Rattle.rules.specs.Calls.{ends, disableCall, createCall, targetCall, callByCode, call}
-use Rattle.rules.specs.Observer.{kindOfCode, target_of}
-use Rattle.rules.specs.Answers.{isNegative}
+use Rattle.rules.specs.State.{root_id, comm_at, cpu_at, live, waits, with_waiting, answered}
+use Rattle.rules.specs.Unobeyed.{is_on}
+use Rattle.rules.specs.Create.{free_id}
+use Rattle.rules.specs.Asking.{asks, finished, ask, consents, hear, with_polls, hears_at, heard_at, still_waits, poll_cell, poll}
+use Rattle.rules.specs.Calls.{ends, disable_call, create_call, target_call, call_by_code, call}
+use Rattle.rules.specs.Observer.{kind_of_code, target_of}
+use Rattle.rules.specs.Answers.{is_negative}
 use Rattle.rules.proofs.Ids.{by-test}
 use Rattle.rules.proofs.Cases.{heard-cases}
-use Rattle.history.specs.History.{Created, History, Ahead, Nothing, Effect, hasCome, come, cellsAfter, answeredBy, after_call, afterTelling, afterPoll}
-use Rattle.reached.specs.Kept.{waitedFor}
+use Rattle.history.specs.History.{Created, History, Ahead, Nothing, Effect, has_come, come, cells_after, answered_by, after_call, after_telling, after_poll}
+use Rattle.reached.specs.Kept.{waited_for}
 use Rattle.reached.proofs.Members.{or-neither, is-it, clash, chosen, passed}
 use Rattle.reached.proofs.Table.{Table, table_of, cut-same}
 use Rattle.reached.proofs.Sound.{Fits, IsCell}
 use Rattle.reached.proofs.Settled.{Settled, same-free}
 use Rattle.reached.proofs.Ready.{fits}
-use Rattle.reached.proofs.Walk.{aheadIn, Awaits, WaitsWell, Agrees, Agree, Ready, tell-agrees, ask-agrees, refused-agrees, not-come}
+use Rattle.reached.proofs.Walk.{ahead_in, Awaits, WaitsWell, Agrees, Agree, Ready, tell-agrees, ask-agrees, refused-agrees, not-come}
 use Rattle.system_record.specs.declared.SystemConfig.{SystemConfig}
 
 module _ (boot : SystemConfig) where
@@ -51,11 +51,11 @@ module _ (boot : SystemConfig) where
   poll-ready SetLoadable target cell new cs m c e = tt
   poll-ready Destroy target cell new cs m c e = subst (IsCell (table_of m)) (eqb→eq cell target (holds e)) c
 
-  module _ (h : History) (m : Machine) (s : Settled boot h.cells (table_of m)) (on : isOn m.power ≡ true) (kind : CallKind) (stage : Stage) (new : CellConfig)
+  module _ (h : History) (m : Machine) (s : Settled boot h.cells (table_of m)) (on : is_on m.power ≡ true) (kind : CallKind) (stage : Stage) (new : CellConfig)
       (w : Awaits (table_of m) kind stage) where
     -- nothing is heard: the machine as it was, but for the count of polls
-    unheard : (g : History) → g.cells ≡ h.cells → aheadIn (Pending kind stage) ≡ g.ahead → stage.cell ≡ g.waits_for → Agrees boot g (stillWaits kind stage m)
-    unfolding waitedFor aheadIn stillWaits withPolls withWaiting
+    unheard : (g : History) → g.cells ≡ h.cells → ahead_in (Pending kind stage) ≡ g.ahead → stage.cell ≡ g.waits_for → Agrees boot g (still_waits kind stage m)
+    unfolding waited_for ahead_in still_waits with_polls with_waiting
     unheard g c a e = record {
       settled = subst (λ (l : List Created). Settled boot l (table_of m)) (sym c) s;
       waits = record { messaged = w.messaged; asked = w.asked };
@@ -65,7 +65,7 @@ module _ (boot : SystemConfig) where
 
     -- the machine on which the cell is heard has the same table
     abbrev heard : Machine
-    heard = heardAt stage m
+    heard = heard_at stage m
 
     same-table : table_of heard ≡ table_of m
     same-table = heard-cases (λ k. table_of k ≡ table_of m) stage m refl (cut-same stage.cell m s.sound.cpus-room)
@@ -73,48 +73,48 @@ module _ (boot : SystemConfig) where
     still-settled : Settled boot h.cells (table_of heard)
     still-settled = subst (Settled boot h.cells) (sym same-table) s
 
-    still-on : isOn heard.power ≡ true
-    still-on = ap (λ (t : Table). isOn t.power) same-table ∙ on
+    still-on : is_on heard.power ≡ true
+    still-on = ap (λ (t : Table). is_on t.power) same-table ∙ on
 
-    poll-telling : stage.telling ≡ true → Agree boot (λ a. afterTelling a h) (pollCell kind stage new m)
-    unfolding pollCell hear answered afterTelling aheadIn
+    poll-telling : stage.telling ≡ true → Agree boot (λ a. after_telling a h) (poll_cell kind stage new m)
+    unfolding poll_cell hear answered after_telling ahead_in
     poll-telling t =
-        by-test (Agree boot (λ a. afterTelling a h)) (hearsAt stage m) (hear kind stage new heard) (answered (Wait stage.cell) (stillWaits kind stage m))
-        (λ e. subst (Agree boot (λ a. afterTelling a h)) (sym (chosen _ _ t)) (tell-agrees boot (λ a. afterTelling a h) h.cells kind stage.target stage.cell heard still-settled (λ c l. refl) (λ n. refl)))
+        by-test (Agree boot (λ a. after_telling a h)) (hears_at stage m) (hear kind stage new heard) (answered (Wait stage.cell) (still_waits kind stage m))
+        (λ e. subst (Agree boot (λ a. after_telling a h)) (sym (chosen _ _ t)) (tell-agrees boot (λ a. after_telling a h) h.cells kind stage.target stage.cell heard still-settled (λ c l. refl) (λ n. refl)))
         (λ e. unheard _ refl (chosen _ _ t) refl)
 
-    poll-asking : stage.telling ≡ false → Agree boot (λ a. answeredBy kind stage.target [] a h) (pollCell kind stage new m)
-    unfolding pollCell hear answered answeredBy aheadIn
+    poll-asking : stage.telling ≡ false → Agree boot (λ a. answered_by kind stage.target [] a h) (poll_cell kind stage new m)
+    unfolding poll_cell hear answered answered_by ahead_in
     poll-asking t =
         let asked : asks kind stage.target stage.cell ≡ true = w.asked t in
         let cell : IsCell (table_of heard) stage.cell = subst (λ (x : Table). IsCell x stage.cell) (sym same-table) w.messaged.cell in
-        by-test (Agree boot hist) (hearsAt stage m) (hear kind stage new heard) (answered (Wait stage.cell) (stillWaits kind stage m))
+        by-test (Agree boot hist) (hears_at stage m) (hear kind stage new heard) (answered (Wait stage.cell) (still_waits kind stage m))
         (λ e. subst (Agree boot hist) (sym (passed _ _ t))
-        (by-test (Agree boot hist) (consents (commAt heard stage.cell)) (ask kind stage.target stage.cell new heard) (finished EPERM heard)
+        (by-test (Agree boot hist) (consents (comm_at heard stage.cell)) (ask kind stage.target stage.cell new heard) (finished EPERM heard)
         (λ c. ask-agrees boot h [] heard still-settled still-on kind stage.target stage.cell new (poll-ready kind stage.target stage.cell new h.cells heard cell asked))
         (λ c. refused-agrees boot h [] heard still-settled still-on kind stage.target 0)))
-        (λ e. subst (λ (g : History). Agrees boot g (stillWaits kind stage m)) (sym (passed _ _ (not-come kind stage.target stage.cell asked))) (unheard _ refl (passed _ _ t) refl))
+        (λ e. subst (λ (g : History). Agrees boot g (still_waits kind stage m)) (sym (passed _ _ (not-come kind stage.target stage.cell asked))) (unheard _ refl (passed _ _ t) refl))
       where
         hist : Answer → History
-        hist a = answeredBy kind stage.target [] a h
+        hist a = answered_by kind stage.target [] a h
 
-  pub poll-agrees : (h : History) (m : Machine) (new : CellConfig) → Agrees boot h m → isOn m.power ≡ true → (w : Waiting) → m.waiting ≡ w
-      → Agree boot (λ a. afterPoll h.ahead a h) (poll w new m)
-  unfolding poll afterPoll afterTelling answeredBy answered aheadIn
-  poll-agrees h m new a on NoCall e = subst (λ (x : Ahead). Agrees boot (afterPoll x Idle h) m) a.ahead (idle (aheadIn m.waiting))
+  pub poll-agrees : (h : History) (m : Machine) (new : CellConfig) → Agrees boot h m → is_on m.power ≡ true → (w : Waiting) → m.waiting ≡ w
+      → Agree boot (λ a. after_poll h.ahead a h) (poll w new m)
+  unfolding poll after_poll after_telling answered_by answered ahead_in
+  poll-agrees h m new a on NoCall e = subst (λ (x : Ahead). Agrees boot (after_poll x Idle h) m) a.ahead (idle (ahead_in m.waiting))
     where
-      idle : (x : Ahead) → Agrees boot (afterPoll x Idle h) m
+      idle : (x : Ahead) → Agrees boot (after_poll x Idle h) m
       idle Nothing = a
       idle (Effect kind target) = a
   poll-agrees h m new a on (Pending kind stage) e =
-      subst (λ (x : Ahead). Agree boot (λ r. afterPoll x r h) (pollCell kind stage new m)) (sym (ap aheadIn e) ∙ a.ahead) (go stage.telling refl)
+      subst (λ (x : Ahead). Agree boot (λ r. after_poll x r h) (poll_cell kind stage new m)) (sym (ap ahead_in e) ∙ a.ahead) (go stage.telling refl)
     where
       w : Awaits (table_of m) kind stage
       w = subst (WaitsWell (table_of m)) e a.waits
 
-      go : (b : Bool) → stage.telling ≡ b → Agree boot (λ r. afterPoll (aheadIn (Pending kind stage)) r h) (pollCell kind stage new m)
-      go true t = subst (λ (x : Ahead). Agree boot (λ r. afterPoll x r h) (pollCell kind stage new m)) (sym (chosen _ _ t)) (poll-telling h m a.settled on kind stage new w t)
-      go false t = subst (λ (x : Ahead). Agree boot (λ r. afterPoll x r h) (pollCell kind stage new m)) (sym (passed _ _ t)) (poll-asking h m a.settled on kind stage new w t)
+      go : (b : Bool) → stage.telling ≡ b → Agree boot (λ r. after_poll (ahead_in (Pending kind stage)) r h) (poll_cell kind stage new m)
+      go true t = subst (λ (x : Ahead). Agree boot (λ r. after_poll x r h) (poll_cell kind stage new m)) (sym (chosen _ _ t)) (poll-telling h m a.settled on kind stage new w t)
+      go false t = subst (λ (x : Ahead). Agree boot (λ r. after_poll x r h) (poll_cell kind stage new m)) (sym (passed _ _ t)) (poll-asking h m a.settled on kind stage new w t)
 
   -- ---- calls
 
@@ -127,19 +127,19 @@ module _ (boot : SystemConfig) where
     hist a = after_call code a1 bytes a h
 
     refused-keeps : (n : ℕ) → hist (Code (negsuc n)) ≡ h
-    unfolding after_call isNegative
+    unfolding after_call is_negative
     refused-keeps n = passed _ _ (and-false (leb code 4))
 
     query-keeps : leb code 4 ≡ false → (a : Answer) → hist a ≡ h
     unfolding after_call
-    query-keeps e a = passed _ _ (ap (λ (b : Bool). b && not (isNegative a)) e)
+    query-keeps e a = passed _ _ (ap (λ (b : Bool). b && not (is_negative a)) e)
 
-    same_kind : (kind : CallKind) → leb code 4 ≡ true → kindOfCode code ≡ kind → h.ahead ≡ Nothing → h.waits_for ≡ 0
-        → (a : Answer) → hist a ≡ answeredBy kind (target_of kind a1) bytes a h
-    unfolding after_call isNegative answeredBy
-    same_kind kind e k n w a = go (isNegative a) refl
+    same_kind : (kind : CallKind) → leb code 4 ≡ true → kind_of_code code ≡ kind → h.ahead ≡ Nothing → h.waits_for ≡ 0
+        → (a : Answer) → hist a ≡ answered_by kind (target_of kind a1) bytes a h
+    unfolding after_call is_negative answered_by
+    same_kind kind e k n w a = go (is_negative a) refl
       where
-        refused : (b : Answer) → isNegative b ≡ true → h ≡ answeredBy kind (target_of kind a1) bytes b h
+        refused : (b : Answer) → is_negative b ≡ true → h ≡ answered_by kind (target_of kind a1) bytes b h
         refused (Code (pos x)) r = absurd (true≢false (sym r))
         refused (Code (negsuc x)) r = sym (idle-history h n w)
         refused (Wait c) r = absurd (true≢false (sym r))
@@ -151,19 +151,19 @@ module _ (boot : SystemConfig) where
         refused Denied r = absurd (true≢false (sym r))
         refused Idle r = absurd (true≢false (sym r))
 
-        go : (b : Bool) → isNegative a ≡ b → hist a ≡ answeredBy kind (target_of kind a1) bytes a h
+        go : (b : Bool) → is_negative a ≡ b → hist a ≡ answered_by kind (target_of kind a1) bytes a h
         go true r = passed _ _ (ap (λ (b : Bool). leb code 4 && not b) r ∙ and-false (leb code 4)) ∙ refused a r
         go false r =
-            chosen _ _ (ap₂ (λ (b c : Bool). b && not c) e r) ∙ ap (λ (x : CallKind). answeredBy x (target_of x a1) bytes a h) k
+            chosen _ _ (ap₂ (λ (b c : Bool). b && not c) e r) ∙ ap (λ (x : CallKind). answered_by x (target_of x a1) bytes a h) k
 
   -- the kinds of the codes
-  kinds : (kindOfCode 0 ≡ Disable) × (kindOfCode 1 ≡ Create) × (kindOfCode 2 ≡ Start) × (kindOfCode 3 ≡ SetLoadable) × (kindOfCode 4 ≡ Destroy)
-  unfolding kindOfCode firstRule
+  kinds : (kind_of_code 0 ≡ Disable) × (kind_of_code 1 ≡ Create) × (kind_of_code 2 ≡ Start) × (kind_of_code 3 ≡ SetLoadable) × (kind_of_code 4 ≡ Destroy)
+  unfolding kind_of_code first_rule
   kinds = (refl, refl, refl, refl, refl)
 
   -- Create's history does not look at a target
-  create-target : (a b : ℕ) (bytes : List ℕ) (r : Answer) (h : History) → answeredBy Create a bytes r h ≡ answeredBy Create b bytes r h
-  unfolding answeredBy hasCome come cellsAfter
+  create-target : (a b : ℕ) (bytes : List ℕ) (r : Answer) (h : History) → answered_by Create a bytes r h ≡ answered_by Create b bytes r h
+  unfolding answered_by has_come come cells_after
   create-target a b bytes (Code (pos n)) h = refl
   create-target a b bytes (Code (negsuc n)) h = refl
   create-target a b bytes (Wait c) h = refl
@@ -192,8 +192,8 @@ module _ (boot : SystemConfig) where
     past n e q = ap (λ (x : ℕ). leb x 4) (eqb→eq code n (holds q)) ∙ e
 
     -- codes 5 to 7 and above
-    queries : leb code 4 ≡ false → P (callByCode cpu code a1 a2 bytes m)
-    unfolding callByCode
+    queries : leb code 4 ≡ false → P (call_by_code cpu code a1 a2 bytes m)
+    unfolding call_by_code
     queries e =
         by-rule P _ _ _ (λ q. absurd (no_call 0 refl q))
         (λ q. by-rule P _ _ _ (λ q. absurd (no_call 1 refl q))
@@ -208,23 +208,23 @@ module _ (boot : SystemConfig) where
         no_call n t q = clash (ap (λ (x : ℕ). leb x 4) (eqb→eq code n (holds q)) ∙ t) e
 
     -- codes 0 to 4, of root with no call waiting
-    module _ (on : isOn m.power ≡ true) (free : h.ahead ≡ Nothing) (none : h.waits_for ≡ 0) where
+    module _ (on : is_on m.power ≡ true) (free : h.ahead ≡ Nothing) (none : h.waits_for ≡ 0) where
       -- a call of a kind, whose code is n
-      goes_on : (n : ℕ) (kind : CallKind) → eqb code n ≡ true → leb n 4 ≡ true → kindOfCode n ≡ kind → (r : Stepped)
-          → Agree boot (λ x. answeredBy kind (target_of kind a1) bytes x h) r → P r
+      goes_on : (n : ℕ) (kind : CallKind) → eqb code n ≡ true → leb n 4 ≡ true → kind_of_code n ≡ kind → (r : Stepped)
+          → Agree boot (λ x. answered_by kind (target_of kind a1) bytes x h) r → P r
       goes_on n kind q low k r g =
           subst (λ (x : History). Agrees boot x r.machine)
-          (sym (same_kind h code a1 bytes kind (ap (λ (x : ℕ). leb x 4) code_is ∙ low) (ap kindOfCode code_is ∙ k) free none r.answer)) g
+          (sym (same_kind h code a1 bytes kind (ap (λ (x : ℕ). leb x 4) code_is ∙ low) (ap kind_of_code code_is ∙ k) free none r.answer)) g
         where
           code_is : code ≡ n
           code_is = eqb→eq code n (holds q)
 
-      by-disable : eqb code 0 ≡ true → P (disableCall (cell_of bytes) m)
-      unfolding disableCall target_of
+      by-disable : eqb code 0 ≡ true → P (disable_call (cell_of bytes) m)
+      unfolding disable_call target_of
       by-disable q = goes_on 0 Disable q refl kinds.0 _ (ask-agrees boot h bytes m a.settled on Disable 0 0 (cell_of bytes) tt)
 
-      by-create : eqb code 1 ≡ true → P (createCall cpu bytes m)
-      unfolding createCall
+      by-create : eqb code 1 ≡ true → P (create_call cpu bytes m)
+      unfolding create_call
       by-create q =
           by-rule P _ _ _ (λ e. at_once _)
           (λ e. by-rule P _ _ _ (λ e. at_once _)
@@ -232,29 +232,29 @@ module _ (boot : SystemConfig) where
           (λ i. by-rule P _ _ _ (λ e. at_once _)
           (λ e. by-rule P _ _ _ (λ b. at_once _)
           (λ b. by-rule P _ _ _ (λ r. at_once _)
-          (λ r. by-none P _ (goes_on 1 Create q refl kinds.1 (ask Create (freeId m) 0 (cell_of bytes) m) (created (fits m cpu bytes a.settled.sound i b r)))))))))
+          (λ r. by-none P _ (goes_on 1 Create q refl kinds.1 (ask Create (free_id m) 0 (cell_of bytes) m) (created (fits m cpu bytes a.settled.sound i b r)))))))))
         where
-          created : Fits (table_of m) (freeId m) (cell_of bytes) → Agree boot (λ x. answeredBy Create (target_of Create a1) bytes x h) (ask Create (freeId m) 0 (cell_of bytes) m)
+          created : Fits (table_of m) (free_id m) (cell_of bytes) → Agree boot (λ x. answered_by Create (target_of Create a1) bytes x h) (ask Create (free_id m) 0 (cell_of bytes) m)
           created f =
-              subst (λ (x : History). Agrees boot x (ask Create (freeId m) 0 (cell_of bytes) m).machine) (create-target (freeId m) (target_of Create a1) bytes _ h)
-              (ask-agrees boot h bytes m a.settled on Create (freeId m) 0 (cell_of bytes) (refl, same-free boot h.cells m a.settled, f))
+              subst (λ (x : History). Agrees boot x (ask Create (free_id m) 0 (cell_of bytes) m).machine) (create-target (free_id m) (target_of Create a1) bytes _ h)
+              (ask-agrees boot h bytes m a.settled on Create (free_id m) 0 (cell_of bytes) (refl, same-free boot h.cells m a.settled, f))
 
       -- Start, Set Loadable, Destroy: ready where the target is a live cell other than root
-      by-target : (n : ℕ) (kind : CallKind) → eqb code n ≡ true → leb n 4 ≡ true → kindOfCode n ≡ kind → target_of kind a1 ≡ a1
-          → (IsCell (table_of m) a1 → Ready boot kind a1 (cell_of bytes) bytes h.cells m) → P (targetCall kind a1 (cell_of bytes) m)
-      unfolding targetCall
+      by-target : (n : ℕ) (kind : CallKind) → eqb code n ≡ true → leb n 4 ≡ true → kind_of_code n ≡ kind → target_of kind a1 ≡ a1
+          → (IsCell (table_of m) a1 → Ready boot kind a1 (cell_of bytes) bytes h.cells m) → P (target_call kind a1 (cell_of bytes) m)
+      unfolding target_call
       by-target n kind q low k t ready =
           by-rule P _ _ _ (λ e. at_once _)
           (λ z. by-rule P _ _ _ (λ e. at_once _)
           (λ l. by-rule P _ _ _ (λ e. at_once _)
           (λ u. by-none P _
           (goes_on n kind q low k (ask kind a1 0 (cell_of bytes) m)
-          (subst (λ (x : ℕ). Agree boot (λ r. answeredBy kind x bytes r h) (ask kind a1 0 (cell_of bytes) m)) (sym t)
+          (subst (λ (x : ℕ). Agree boot (λ r. answered_by kind x bytes r h) (ask kind a1 0 (cell_of bytes) m)) (sym t)
           (ask-agrees boot h bytes m a.settled on kind a1 0 (cell_of bytes)
           (ready (record { other = λ e. fails z (eq→eqb a1 0 e); lives = is-it (live m a1) l }))))))))
 
-      pub root-calls : P (callByCode cpu code a1 a2 bytes m)
-      unfolding callByCode target_of
+      pub root-calls : P (call_by_code cpu code a1 a2 bytes m)
+      unfolding call_by_code target_of
       root-calls =
           by-rule P _ _ _ (λ q. by-disable q)
           (λ q. by-rule P _ _ _ (λ q. by-create q)
@@ -266,20 +266,20 @@ module _ (boot : SystemConfig) where
           (λ q. by-rule P _ _ _ (λ q. query (past 7 refl q) _) (λ q. by-none P _ (at_once _)))))))))
 
     -- a call, counted: of root with no call waiting, or of another cell
-    pub calls : isOn m.power ≡ true → (eqb (cpuAt m cpu).cell rootId && waits m.waiting) ≡ false → P (call cpu code a1 a2 bytes m)
-    unfolding call waits aheadIn waitedFor
+    pub calls : is_on m.power ≡ true → (eqb (cpu_at m cpu).cell root_id && waits m.waiting) ≡ false → P (call cpu code a1 a2 bytes m)
+    unfolding call waits ahead_in waited_for
     calls on held =
         by-rule P _ _ _ (λ e. at_once _)
-        (λ e. by-rule P _ _ _ (λ e. at_once _) (λ e. by-none P _ (by-caller (eqb (cpuAt m cpu).cell rootId) refl e)))
+        (λ e. by-rule P _ _ _ (λ e. at_once _) (λ e. by-none P _ (by-caller (eqb (cpu_at m cpu).cell root_id) refl e)))
       where
-        not-waiting : (w : Waiting) → waits w ≡ false → (aheadIn w ≡ Nothing) × (waitedFor w ≡ 0)
+        not-waiting : (w : Waiting) → waits w ≡ false → (ahead_in w ≡ Nothing) × (waited_for w ≡ 0)
         not-waiting NoCall e = (refl, refl)
         not-waiting (Pending kind stage) e = absurd (true≢false e)
 
-        by-caller : (b : Bool) → eqb (cpuAt m cpu).cell rootId ≡ b → (not (eqb (cpuAt m cpu).cell rootId) && (leb code 4 || eqb code 6)) ≡ false
-            → P (callByCode cpu code a1 a2 bytes m)
+        by-caller : (b : Bool) → eqb (cpu_at m cpu).cell root_id ≡ b → (not (eqb (cpu_at m cpu).cell root_id) && (leb code 4 || eqb code 6)) ≡ false
+            → P (call_by_code cpu code a1 a2 bytes m)
         by-caller true q e =
-            let idle : (aheadIn m.waiting ≡ Nothing) × (waitedFor m.waiting ≡ 0) =
+            let idle : (ahead_in m.waiting ≡ Nothing) × (waited_for m.waiting ≡ 0) =
             not-waiting m.waiting (sym (ap (λ (b : Bool). b && waits m.waiting) q) ∙ held) in
             root-calls on (sym a.ahead ∙ idle.0) (sym a.waited ∙ idle.1)
         by-caller false q e = queries (or-neither (leb code 4) (eqb code 6) (sym (ap (λ (b : Bool). not b && (leb code 4 || eqb code 6)) q) ∙ e)).0

@@ -10,7 +10,7 @@ use lib.ListN.{length, get_or, set, length-set, get_or-map, get_or-eq_default}
 use lib.Seq.{map-set_same, get_or-set_same, get_or-set_other}
 use borrow.Author.Tests.{ltb-true, ltb-false}
 use Rattle.base.proofs.Tests.{is_false, holds, fails, eq→eqb}
-use Rattle.base.proofs.Lists.{length-upTo, getD-upTo}
+use Rattle.base.proofs.Lists.{length-up_to, get_or-up_to}
 use Rattle.cpu_set.specs.CpuSet.{member}
 use Rattle.cpu_set.proofs.Laws.{member-lt}
 use Rattle.system_record.specs.declared.SystemConfig.{SystemConfig}
@@ -22,38 +22,38 @@ use Rattle.machine_state.specs.declared.Phase.TheVariants.{Loading, Started}
 use Rattle.machine_state.specs.declared.Cell.{Cell}
 use Rattle.machine_state.specs.declared.Power.{Power}
 use Rattle.machine_state.specs.declared.Machine.{Machine}
-use Rattle.machine_state.specs.Machine.{cpuIn, pastCpu, pastComm, pastCell}
-use Rattle.rules.specs.State.{rootId, cell_at, commAt, cpuAt, live, isFinal, failed, withCell, withComm, withCpus, withCpu}
-use Rattle.rules.specs.Effects.{countExit, counted, storeWord, stored, failCpu, allFailed, cellFailed, faulted, withState, changeIn, changeCpus, cpusChanged, startCpu, stopCpu, withPhase, inPhase, clearWords, cellStarted, cellLoadable, cellCutOff}
+use Rattle.machine_state.specs.Machine.{cpu_in, past_cpu, past_comm, past_cell}
+use Rattle.rules.specs.State.{root_id, cell_at, comm_at, cpu_at, live, is_final, failed, with_cell, with_comm, with_cpus, with_cpu}
+use Rattle.rules.specs.Effects.{count_exit, counted, store_word, stored, fail_cpu, all_failed, cell_failed, faulted, with_state, change_in, change_cpus, cpus_changed, start_cpu, stop_cpu, with_phase, in_phase, clear_words, cell_started, cell_loadable, cell_cut_off}
 use Rattle.rules.proofs.Ids.{by-test}
-use Rattle.reached.specs.Kept.{keptIn, kept}
+use Rattle.reached.specs.Kept.{kept_in, kept}
 
 pub record Table : Type 0 where
   pub power : Power
   pub system : SystemConfig
   pub pool : ℕ
-  pub isLive : ℕ → Bool
-  pub rootHas : ℕ → Bool
+  pub is_live : ℕ → Bool
+  pub root_has : ℕ → Bool
   pub config : ℕ → CellConfig
   pub mapped : ℕ → Bool
   pub owner : ℕ → ℕ
-  pub cellRooms : ℕ
-  pub commRooms : ℕ
-  pub cpuRooms : ℕ
+  pub cell_rooms : ℕ
+  pub comm_rooms : ℕ
+  pub cpu_rooms : ℕ
 
 abbrev pub table_of : Machine → Table
 table_of m = record {
   power = m.power;
   system = m.system;
   pool = m.pool_used;
-  isLive = live m;
-  rootHas = λ k. member k m.root_cpus;
+  is_live = live m;
+  root_has = λ k. member k m.root_cpus;
   config = kept m;
-  mapped = λ id. (commAt m id).mapped;
-  owner = λ k. (cpuAt m k).cell;
-  cellRooms = length m.cells;
-  commRooms = length m.comms;
-  cpuRooms = length m.cpus;
+  mapped = λ id. (comm_at m id).mapped;
+  owner = λ k. (cpu_at m k).cell;
+  cell_rooms = length m.cells;
+  comm_rooms = length m.comms;
+  cpu_rooms = length m.cpus;
 }
 
 -- ---- places of a list after `set`
@@ -77,53 +77,53 @@ by-choice f false x y = refl
 
 -- ---- what leaves the table as it was
 
-pub same-cpu : (cpu : ℕ) (p : Cpu) (m : Machine) → p.cell ≡ (cpuAt m cpu).cell → table_of (withCpu cpu p m) ≡ table_of m
-unfolding withCpus
+pub same-cpu : (cpu : ℕ) (p : Cpu) (m : Machine) → p.cell ≡ (cpu_at m cpu).cell → table_of (with_cpu cpu p m) ≡ table_of m
+unfolding with_cpus
 same-cpu cpu p m e = λ i. record {
   power = m.power;
   system = m.system;
   pool = m.pool_used;
-  isLive = live m;
-  rootHas = λ k. member k m.root_cpus;
+  is_live = live m;
+  root_has = λ k. member k m.root_cpus;
   config = kept m;
-  mapped = λ id. (commAt m id).mapped;
-  owner = λ k. keeps (λ (q : Cpu). q.cell) m.cpus cpu p pastCpu e k i;
-  cellRooms = length m.cells;
-  commRooms = length m.comms;
-  cpuRooms = length-set m.cpus cpu p i;
+  mapped = λ id. (comm_at m id).mapped;
+  owner = λ k. keeps (λ (q : Cpu). q.cell) m.cpus cpu p past_cpu e k i;
+  cell_rooms = length m.cells;
+  comm_rooms = length m.comms;
+  cpu_rooms = length-set m.cpus cpu p i;
 }
 
 -- words that say the same of a cell's record
-pub same-comm : (id : ℕ) (c : CommRegion) (m : Machine) → c.mapped ≡ (commAt m id).mapped → ((x : Cell) → keptIn x c ≡ keptIn x (commAt m id))
-    → table_of (withComm id c m) ≡ table_of m
-unfolding withComm
+pub same-comm : (id : ℕ) (c : CommRegion) (m : Machine) → c.mapped ≡ (comm_at m id).mapped → ((x : Cell) → kept_in x c ≡ kept_in x (comm_at m id))
+    → table_of (with_comm id c m) ≡ table_of m
+unfolding with_comm
 same-comm id c m e f = λ i. record {
   power = m.power;
   system = m.system;
   pool = m.pool_used;
-  isLive = live m;
-  rootHas = λ k. member k m.root_cpus;
-  config = λ k. keeps (λ (w : CommRegion). keptIn (cell_at m k) w) m.comms id c pastComm (f (cell_at m k)) k i;
-  mapped = λ k. keeps (λ (w : CommRegion). w.mapped) m.comms id c pastComm e k i;
-  owner = λ k. (cpuAt m k).cell;
-  cellRooms = length m.cells;
-  commRooms = length-set m.comms id c i;
-  cpuRooms = length m.cpus;
+  is_live = live m;
+  root_has = λ k. member k m.root_cpus;
+  config = λ k. keeps (λ (w : CommRegion). kept_in (cell_at m k) w) m.comms id c past_comm (f (cell_at m k)) k i;
+  mapped = λ k. keeps (λ (w : CommRegion). w.mapped) m.comms id c past_comm e k i;
+  owner = λ k. (cpu_at m k).cell;
+  cell_rooms = length m.cells;
+  comm_rooms = length-set m.comms id c i;
+  cpu_rooms = length m.cpus;
 }
 
 pub counted_same : (own cpu : ℕ) (m : Machine) → table_of (counted own cpu m) ≡ table_of m
-unfolding counted countExit
+unfolding counted count_exit
 counted_same own cpu m = same-cpu cpu _ m refl
 
 -- a store changes one of the three words
-store-mapped : (word value : ℕ) (c : CommRegion) → (storeWord word value c).mapped ≡ c.mapped
-unfolding storeWord
+store-mapped : (word value : ℕ) (c : CommRegion) → (store_word word value c).mapped ≡ c.mapped
+unfolding store_word
 store-mapped zero value c = refl
 store-mapped (suc zero) value c = refl
 store-mapped (suc (suc word)) value c = refl
 
-store_kept : (word value : ℕ) (c : CommRegion) (x : Cell) → keptIn x (storeWord word value c) ≡ keptIn x c
-unfolding storeWord
+store_kept : (word value : ℕ) (c : CommRegion) (x : Cell) → kept_in x (store_word word value c) ≡ kept_in x c
+unfolding store_word
 store_kept zero value c x = refl
 store_kept (suc zero) value c x = refl
 store_kept (suc (suc word)) value c x = refl
@@ -133,91 +133,91 @@ unfolding stored
 stored_same cpu word value m = same-comm _ _ m (store-mapped word value _) (store_kept word value _)
 
 -- a cell has failed, or nothing has changed
-by-failing : (P : Machine → Type 0) (id : ℕ) (m : Machine) → P (withComm id (withState failed (commAt m id)) m) → P m → P (cellFailed id m)
-unfolding cellFailed
+by-failing : (P : Machine → Type 0) (id : ℕ) (m : Machine) → P (with_comm id (with_state failed (comm_at m id)) m) → P m → P (cell_failed id m)
+unfolding cell_failed
 by-failing P id m p q =
-    by-test P (not (eqb id rootId) && allFailed (cell_at m id).cpus m.cpus && not (isFinal (commAt m id).cell_state))
-    (withComm id (withState failed (commAt m id)) m) m (λ e. p) (λ e. q)
+    by-test P (not (eqb id root_id) && all_failed (cell_at m id).cpus m.cpus && not (is_final (comm_at m id).cell_state))
+    (with_comm id (with_state failed (comm_at m id)) m) m (λ e. p) (λ e. q)
 
-failed-same : (id : ℕ) (m : Machine) → table_of (cellFailed id m) ≡ table_of m
+failed-same : (id : ℕ) (m : Machine) → table_of (cell_failed id m) ≡ table_of m
 failed-same id m =
     by-failing (λ (k : Machine). table_of k ≡ table_of m) id m
     (same-comm id _ m refl (λ x. refl)) refl
 
 pub faulted-waiting : (cpu : ℕ) (m : Machine) → (faulted cpu m).waiting ≡ m.waiting
-unfolding faulted withCpus withComm
+unfolding faulted with_cpus with_comm
 faulted-waiting cpu m =
-    by-failing (λ (k : Machine). k.waiting ≡ m.waiting) (cpuAt m cpu).cell (withCpu cpu (failCpu (cpuAt m cpu)) m) refl refl
+    by-failing (λ (k : Machine). k.waiting ≡ m.waiting) (cpu_at m cpu).cell (with_cpu cpu (fail_cpu (cpu_at m cpu)) m) refl refl
 
 pub faulted-same : (cpu : ℕ) (m : Machine) → table_of (faulted cpu m) ≡ table_of m
-unfolding faulted failCpu
-faulted-same cpu m = failed-same (cpuAt m cpu).cell (withCpu cpu (failCpu (cpuAt m cpu)) m) ∙ same-cpu cpu (failCpu (cpuAt m cpu)) m refl
+unfolding faulted fail_cpu
+faulted-same cpu m = failed-same (cpu_at m cpu).cell (with_cpu cpu (fail_cpu (cpu_at m cpu)) m) ∙ same-cpu cpu (fail_cpu (cpu_at m cpu)) m refl
 
-pub phase-same : (id : ℕ) (phase : Phase) (m : Machine) → table_of (inPhase id phase m) ≡ table_of m
-unfolding inPhase withCell withPhase
+pub phase-same : (id : ℕ) (phase : Phase) (m : Machine) → table_of (in_phase id phase m) ≡ table_of m
+unfolding in_phase with_cell with_phase
 phase-same id phase m = λ i. record {
   power = m.power;
   system = m.system;
   pool = m.pool_used;
-  isLive = live m;
-  rootHas = λ k. member k m.root_cpus;
-  config = λ k. keeps (λ (c : Cell). keptIn c (commAt m k)) m.cells id (withPhase phase (cell_at m id)) pastCell refl k i;
-  mapped = λ k. (commAt m k).mapped;
-  owner = λ k. (cpuAt m k).cell;
-  cellRooms = length-set m.cells id (withPhase phase (cell_at m id)) i;
-  commRooms = length m.comms;
-  cpuRooms = length m.cpus;
+  is_live = live m;
+  root_has = λ k. member k m.root_cpus;
+  config = λ k. keeps (λ (c : Cell). kept_in c (comm_at m k)) m.cells id (with_phase phase (cell_at m id)) past_cell refl k i;
+  mapped = λ k. (comm_at m k).mapped;
+  owner = λ k. (cpu_at m k).cell;
+  cell_rooms = length-set m.cells id (with_phase phase (cell_at m id)) i;
+  comm_rooms = length m.comms;
+  cpu_rooms = length m.cpus;
 }
 
 -- ---- the CPUs of a set, changed
 
-pub cpu-changed : (s : ℕ) (change : Cpu → Cpu) (cpus : List Cpu) (k : ℕ) → length cpus ≡ 64 → cpuIn (changeCpus s change cpus) k ≡ changeIn s change k (cpuIn cpus k)
-unfolding changeCpus changeIn
+pub cpu-changed : (s : ℕ) (change : Cpu → Cpu) (cpus : List Cpu) (k : ℕ) → length cpus ≡ 64 → cpu_in (change_cpus s change cpus) k ≡ change_in s change k (cpu_in cpus k)
+unfolding change_cpus change_in
 cpu-changed s change cpus k l = go (ltb k 64) refl
   where
     f : ℕ → Cpu
-    f n = changeIn s change n (cpuIn cpus n)
+    f n = change_in s change n (cpu_in cpus n)
 
-    go : (b : Bool) → ltb k 64 ≡ b → cpuIn (changeCpus s change cpus) k ≡ changeIn s change k (cpuIn cpus k)
-    go true e = getD-upTo f 64 k pastCpu (ltb-true k 64 e)
+    go : (b : Bool) → ltb k 64 ≡ b → cpu_in (change_cpus s change cpus) k ≡ change_in s change k (cpu_in cpus k)
+    go true e = get_or-up_to f 64 k past_cpu (ltb-true k 64 e)
     go false e =
         let past : 64 ≤ k = ltb-false k 64 e in
         let out : member k s ≡ false = is_false (member k s) (λ t. absurd (omega (arith, member-lt k s t))) in
-        let long : length (changeCpus s change cpus) ≤ k = subst (λ (n : ℕ). n ≤ k) (sym (length-upTo f 64)) past in
-        get_or-eq_default (changeCpus s change cpus) pastCpu long
-        ∙ sym (get_or-eq_default cpus pastCpu (subst (λ (n : ℕ). n ≤ k) (sym l) past)) ∙ sym (rw (out, changeIn))
+        let long : length (change_cpus s change cpus) ≤ k = subst (λ (n : ℕ). n ≤ k) (sym (length-up_to f 64)) past in
+        get_or-eq_default (change_cpus s change cpus) past_cpu long
+        ∙ sym (get_or-eq_default cpus past_cpu (subst (λ (n : ℕ). n ≤ k) (sym l) past)) ∙ sym (rw (out, change_in))
 
 -- a change that keeps a CPU's cell
-same-cpus : (s : ℕ) (change : Cpu → Cpu) (m : Machine) → length m.cpus ≡ 64 → ((p : Cpu) → (change p).cell ≡ p.cell) → table_of (cpusChanged s change m) ≡ table_of m
-unfolding cpusChanged withCpus changeCpus changeIn
+same-cpus : (s : ℕ) (change : Cpu → Cpu) (m : Machine) → length m.cpus ≡ 64 → ((p : Cpu) → (change p).cell ≡ p.cell) → table_of (cpus_changed s change m) ≡ table_of m
+unfolding cpus_changed with_cpus change_cpus change_in
 same-cpus s change m l e = λ i. record {
   power = m.power;
   system = m.system;
   pool = m.pool_used;
-  isLive = live m;
-  rootHas = λ k. member k m.root_cpus;
+  is_live = live m;
+  root_has = λ k. member k m.root_cpus;
   config = kept m;
-  mapped = λ id. (commAt m id).mapped;
+  mapped = λ id. (comm_at m id).mapped;
   owner = λ k. same k i;
-  cellRooms = length m.cells;
-  commRooms = length m.comms;
-  cpuRooms = (length-upTo (λ n. changeIn s change n (cpuIn m.cpus n)) 64 ∙ sym l) i;
+  cell_rooms = length m.cells;
+  comm_rooms = length m.comms;
+  cpu_rooms = (length-up_to (λ n. change_in s change n (cpu_in m.cpus n)) 64 ∙ sym l) i;
 }
   where
-    same : (k : ℕ) → (cpuIn (changeCpus s change m.cpus) k).cell ≡ (cpuAt m k).cell
+    same : (k : ℕ) → (cpu_in (change_cpus s change m.cpus) k).cell ≡ (cpu_at m k).cell
     same k =
         ap (λ (p : Cpu). p.cell) (cpu-changed s change m.cpus k l)
-        ∙ by-test (λ (p : Cpu). p.cell ≡ (cpuAt m k).cell) (member k s) _ _ (λ t. e (cpuAt m k)) (λ t. refl)
+        ∙ by-test (λ (p : Cpu). p.cell ≡ (cpu_at m k).cell) (member k s) _ _ (λ t. e (cpu_at m k)) (λ t. refl)
 
 -- Start, Set Loadable, and a cell cut off
-pub started-same : (id : ℕ) (m : Machine) → length m.cpus ≡ 64 → table_of (cellStarted id m) ≡ table_of m
-unfolding cellStarted startCpu clearWords withComm
-started-same id m l = phase-same id Started _ ∙ same-cpus _ startCpu _ l (λ p. refl) ∙ same-comm id _ m refl (λ x. refl)
+pub started-same : (id : ℕ) (m : Machine) → length m.cpus ≡ 64 → table_of (cell_started id m) ≡ table_of m
+unfolding cell_started start_cpu clear_words with_comm
+started-same id m l = phase-same id Started _ ∙ same-cpus _ start_cpu _ l (λ p. refl) ∙ same-comm id _ m refl (λ x. refl)
 
-pub loadable-same : (id : ℕ) (m : Machine) → length m.cpus ≡ 64 → table_of (cellLoadable id m) ≡ table_of m
-unfolding cellLoadable stopCpu withComm
-loadable-same id m l = phase-same id Loading _ ∙ same-cpus _ stopCpu _ l (λ p. refl) ∙ same-comm id _ m refl (λ x. refl)
+pub loadable-same : (id : ℕ) (m : Machine) → length m.cpus ≡ 64 → table_of (cell_loadable id m) ≡ table_of m
+unfolding cell_loadable stop_cpu with_comm
+loadable-same id m l = phase-same id Loading _ ∙ same-cpus _ stop_cpu _ l (λ p. refl) ∙ same-comm id _ m refl (λ x. refl)
 
-pub cut-same : (id : ℕ) (m : Machine) → length m.cpus ≡ 64 → table_of (cellCutOff id m) ≡ table_of m
-unfolding cellCutOff stopCpu withComm
-cut-same id m l = same-cpus _ stopCpu _ l (λ p. refl) ∙ same-comm id _ m refl (λ x. refl)
+pub cut-same : (id : ℕ) (m : Machine) → length m.cpus ≡ 64 → table_of (cell_cut_off id m) ≡ table_of m
+unfolding cell_cut_off stop_cpu with_comm
+cut-same id m l = same-cpus _ stop_cpu _ l (λ p. refl) ∙ same-comm id _ m refl (λ x. refl)

@@ -6,11 +6,11 @@ use Rattle.machine_state.specs.declared.Cell.{Cell}
 use Rattle.machine_state.specs.declared.Waiting.{Waiting}
 use Rattle.machine_state.specs.declared.Waiting.TheVariants.{NoCall, Pending}
 use Rattle.machine_state.specs.declared.Machine.{Machine}
-use Rattle.rules.specs.State.{rootId, cell_at, commAt}
+use Rattle.rules.specs.State.{root_id, cell_at, comm_at}
 
 -- name, passive mark, reply limit, CPUs and regions, from the cell's two places in the machine
-abbrev pub keptIn : Cell → CommRegion → CellConfig
-keptIn c words = record {
+abbrev pub kept_in : Cell → CommRegion → CellConfig
+kept_in c words = record {
   name = c.name;
   passive = words.passive;
   reply_limit = words.reply_limit;
@@ -20,9 +20,9 @@ keptIn c words = record {
 }
 
 abbrev pub kept : Machine → ℕ → CellConfig
-kept m id = keptIn (cell_at m id) (commAt m id)
+kept m id = kept_in (cell_at m id) (comm_at m id)
 
 -- root where no call waits
-unfoldable pub waitedFor : Waiting → ℕ
-waitedFor NoCall = rootId
-waitedFor (Pending kind stage) = stage.cell
+unfoldable pub waited_for : Waiting → ℕ
+waited_for NoCall = root_id
+waited_for (Pending kind stage) = stage.cell

@@ -11,8 +11,8 @@ use Rattle.machine_state.specs.declared.Event.{Event}
 use Rattle.machine_state.specs.declared.Event.TheVariants.{Call}
 use Rattle.machine_state.specs.declared.Answer.{Answer}
 use Rattle.machine_state.specs.declared.Machine.{Machine}
-use Rattle.rules.specs.State.{rootId, cell_at, cpuAt, commAt, answered}
-use Rattle.rules.specs.Effects.{counted, callCounter}
+use Rattle.rules.specs.State.{root_id, cell_at, cpu_at, comm_at, answered}
+use Rattle.rules.specs.Effects.{counted, call_counter}
 use Rattle.rules.specs.Run.{Manager, Line, Happened, happens, run, after}
 use Rattle.rules.specs.Step.{step}
 use Rattle.base.specs.Lists as Lists
@@ -40,13 +40,13 @@ use Rattle.refusals.specs.AtOnce as AtOnce
 use Rattle.refusals.specs.WholeCall as WholeCall
 use Rattle.refusals.specs.WhenRefused as WhenRefused
 use Rattle.refusals.specs.Wrong as Wrong
-use Rattle.reading_room.specs.ReadingRoom.{limitedSearch, notes, phaseNumber, booted, started, withNotes, logCall, logCreate, logStore, logPoll}
-use Rattle.rules.specs.Unobeyed.{isObeyed}
-use Rattle.rules.specs.Answers.{isNegative, isUnobeyed, isWait}
-use Rattle.refusals.specs.AtOnce.{refusalLeaves, UnobeyedKeeps, RefusedAtOnce}
-use Rattle.refusals.specs.WholeCall.{ownPolls, endsRefused, setAside, nowWaited, cutOffBy, OnlyMessages, RefusedKeeps}
+use Rattle.reading_room.specs.ReadingRoom.{limited_search, notes, phase_number, booted, started, with_notes, log_call, log_create, log_store, log_poll}
+use Rattle.rules.specs.Unobeyed.{is_obeyed}
+use Rattle.rules.specs.Answers.{is_negative, is_unobeyed, is_wait}
+use Rattle.refusals.specs.AtOnce.{refusal_leaves, UnobeyedKeeps, RefusedAtOnce}
+use Rattle.refusals.specs.WholeCall.{own_polls, ends_refused, set_aside, now_waited, cut_off_by, OnlyMessages, RefusedKeeps}
 use Rattle.refusals.specs.WhenRefused.{refuses, NegativeIsRefusal}
-use Rattle.refusals.specs.Wrong.{countsUnobeyed, countsNoRefusal, leavesMessage, loadsFirst, messagesAnother, stopsHeard, cutsOffAnother, doesNothing, answersZero, refusesAll}
+use Rattle.refusals.specs.Wrong.{counts_unobeyed, counts_no_refusal, leaves_message, loads_first, messages_another, stops_heard, cuts_off_another, does_nothing, answers_zero, refuses_all}
 
 -- a figure of two machines that are said to be equal
 unequal : (figure : Machine → ℕ) (m k : Machine) → eqb (figure m) (figure k) ≡ false → m ≡ k → ⊥
@@ -54,19 +54,19 @@ unequal figure m k e q =
     true≢false (sym (is_true _ (eqb_refl (figure m))) ∙ ap (λ (n : ℕ). eqb (figure m) n) (ap figure q) ∙ e)
 
 total : ℕ → Machine → ℕ
-total cpu m = get_or (cpuAt m cpu).counters 0 0
+total cpu m = get_or (cpu_at m cpu).counters 0 0
 
 to_cell : ℕ → Machine → ℕ
-to_cell id m = (commAt m id).msg_to_cell
+to_cell id m = (comm_at m id).msg_to_cell
 
 phase : ℕ → Machine → ℕ
-phase id m = phaseNumber (cell_at m id).phase
+phase id m = phase_number (cell_at m id).phase
 
 pub state : ℕ → Machine → ℕ
-state id m = (commAt m id).cell_state
+state id m = (comm_at m id).cell_state
 
-pub isStopped : ℕ → Machine → ℕ
-isStopped cpu m = elim (cpuAt m cpu).stopped [ true ↦ 1 | false ↦ 0 ]
+pub is_stopped : ℕ → Machine → ℕ
+is_stopped cpu m = elim (cpu_at m cpu).stopped [ true ↦ 1 | false ↦ 0 ]
 
 -- ---- the runs
 
@@ -78,85 +78,85 @@ answer_of manager e m = (manager e [] m).answer
 
 -- `search` denies
 abbrev denies : List Line
-denies = logStore 2 1 2 ∷ logPoll ∷ []
+denies = log_store 2 1 2 ∷ log_poll ∷ []
 
 -- `search` consents, and `notes` denies
-onlySearch : List Line
-onlySearch = logStore 2 1 3 ∷ logPoll ∷ logStore 1 1 2 ∷ logPoll ∷ []
+only_search : List Line
+only_search = log_store 2 1 3 ∷ log_poll ∷ log_store 1 1 2 ∷ log_poll ∷ []
 
 -- Disable: its own polls, the first of them, and the cell that it waited for
 disables : List Happened
-disables = ownPolls (run stopsHeard (left stopsHeard (Call 0 0 0 0) withNotes) onlySearch)
+disables = own_polls (run stops_heard (left stops_heard (Call 0 0 0 0) with_notes) only_search)
 
-firstPoll : Happened
-firstPoll = get_or disables 0 (happens step logPoll booted)
+first_poll : Happened
+first_poll = get_or disables 0 (happens step log_poll booted)
 
-waitedFor : ℕ
-waitedFor = nowWaited rootId (answer_of stopsHeard (Call 0 0 0 0) withNotes)
+waited_for : ℕ
+waited_for = now_waited root_id (answer_of stops_heard (Call 0 0 0 0) with_notes)
 
 -- `search` with a limit of one poll, started beside `notes`. Destroy of it: it hangs, `notes` locks the configuration, and the poll cuts it off
 pub hung : Machine
-hung = after step booted (logCreate 0 (limitedSearch 1) ∷ logCreate 0 notes ∷ logCall 0 2 1 0 ∷ logCall 0 2 2 0 ∷ [])
+hung = after step booted (log_create 0 (limited_search 1) ∷ log_create 0 notes ∷ log_call 0 2 1 0 ∷ log_call 0 2 2 0 ∷ [])
 
 pub hangs : List Line
-hangs = logStore 1 2 1 ∷ logPoll ∷ []
+hangs = log_store 1 2 1 ∷ log_poll ∷ []
 
-hungPolls : Manager → List Happened
-hungPolls manager = ownPolls (run manager (left manager (Call 0 4 1 0) hung) hangs)
+hung_polls : Manager → List Happened
+hung_polls manager = own_polls (run manager (left manager (Call 0 4 1 0) hung) hangs)
 
-pub cutPoll : Manager → Happened
-cutPoll manager = get_or (hungPolls manager) 0 (happens step logPoll booted)
+pub cut_poll : Manager → Happened
+cut_poll manager = get_or (hung_polls manager) 0 (happens step log_poll booted)
 
-hungWaited : ℕ
-hungWaited = nowWaited rootId (answer_of cutsOffAnother (Call 0 4 1 0) hung)
+hung_waited : ℕ
+hung_waited = now_waited root_id (answer_of cuts_off_another (Call 0 4 1 0) hung)
 
 -- what a call of CPU 0 may change is set aside: of the machine that a manager left, and of the one that it met, the caller counted
 aside : Manager → Event → Machine → Machine → Machine
-aside manager e m k = setAside 0 (answer_of manager e m) k
+aside manager e m k = set_aside 0 (answer_of manager e m) k
 
 -- a call from CPU 7, which is outside the boot set; codes 8 and 5, Get Info; Set Loadable and Destroy of `search`, which denies
 record Runs : Type 0 where
-  outside : isUnobeyed (answer_of countsUnobeyed (Call 7 5 4 0) booted) ≡ true
-  outside-counted : eqb (total 7 (left countsUnobeyed (Call 7 5 4 0) booted)) (total 7 booted) ≡ false
-  no_code : isNegative (answer_of countsNoRefusal (Call 0 8 0 0) booted) ≡ true
-  no-code-counted : eqb (total 0 (left countsNoRefusal (Call 0 8 0 0) booted)) (total 0 (refusalLeaves (Call 0 8 0 0) booted)) ≡ false
-  no-code-1 : isNegative (answer_of leavesMessage (Call 0 8 1 0) started) ≡ true
-  no-code-message : eqb (to_cell 1 (left leavesMessage (Call 0 8 1 0) started)) (to_cell 1 (refusalLeaves (Call 0 8 1 0) started)) ≡ false
-  loads-waits : isWait (answer_of loadsFirst (Call 0 3 1 0) started) ≡ true
-  loads-denied : endsRefused (run loadsFirst (left loadsFirst (Call 0 3 1 0) started) denies) ≡ true
+  outside : is_unobeyed (answer_of counts_unobeyed (Call 7 5 4 0) booted) ≡ true
+  outside-counted : eqb (total 7 (left counts_unobeyed (Call 7 5 4 0) booted)) (total 7 booted) ≡ false
+  no_code : is_negative (answer_of counts_no_refusal (Call 0 8 0 0) booted) ≡ true
+  no-code-counted : eqb (total 0 (left counts_no_refusal (Call 0 8 0 0) booted)) (total 0 (refusal_leaves (Call 0 8 0 0) booted)) ≡ false
+  no-code-1 : is_negative (answer_of leaves_message (Call 0 8 1 0) started) ≡ true
+  no-code-message : eqb (to_cell 1 (left leaves_message (Call 0 8 1 0) started)) (to_cell 1 (refusal_leaves (Call 0 8 1 0) started)) ≡ false
+  loads-waits : is_wait (answer_of loads_first (Call 0 3 1 0) started) ≡ true
+  loads-denied : ends_refused (run loads_first (left loads_first (Call 0 3 1 0) started) denies) ≡ true
   loads-phase :
-      eqb (phase 1 (aside loadsFirst (Call 0 3 1 0) started (left loadsFirst (Call 0 3 1 0) started)))
-      (phase 1 (aside loadsFirst (Call 0 3 1 0) started (counted callCounter 0 started)))
+      eqb (phase 1 (aside loads_first (Call 0 3 1 0) started (left loads_first (Call 0 3 1 0) started)))
+      (phase 1 (aside loads_first (Call 0 3 1 0) started (counted call_counter 0 started)))
       ≡ false
-  another-waits : isWait (answer_of messagesAnother (Call 0 4 1 0) withNotes) ≡ true
-  another-denied : endsRefused (run messagesAnother (left messagesAnother (Call 0 4 1 0) withNotes) denies) ≡ true
+  another-waits : is_wait (answer_of messages_another (Call 0 4 1 0) with_notes) ≡ true
+  another-denied : ends_refused (run messages_another (left messages_another (Call 0 4 1 0) with_notes) denies) ≡ true
   another-message :
-      eqb (to_cell 2 (aside messagesAnother (Call 0 4 1 0) withNotes (left messagesAnother (Call 0 4 1 0) withNotes)))
-      (to_cell 2 (aside messagesAnother (Call 0 4 1 0) withNotes (counted callCounter 0 withNotes)))
+      eqb (to_cell 2 (aside messages_another (Call 0 4 1 0) with_notes (left messages_another (Call 0 4 1 0) with_notes)))
+      (to_cell 2 (aside messages_another (Call 0 4 1 0) with_notes (counted call_counter 0 with_notes)))
       ≡ false
-  stops-waits : isWait (answer_of stopsHeard (Call 0 0 0 0) withNotes) ≡ true
-  stops-denied : endsRefused (run stopsHeard (left stopsHeard (Call 0 0 0 0) withNotes) onlySearch) ≡ true
+  stops-waits : is_wait (answer_of stops_heard (Call 0 0 0 0) with_notes) ≡ true
+  stops-denied : ends_refused (run stops_heard (left stops_heard (Call 0 0 0 0) with_notes) only_search) ≡ true
   stops-polls : ltb 0 (length disables) ≡ true
   stops-cpu :
-      eqb (isStopped 2 (setAside waitedFor firstPoll.answer firstPoll.after)) (isStopped 2 (setAside waitedFor firstPoll.answer (cutOffBy firstPoll.answer firstPoll.before)))
+      eqb (is_stopped 2 (set_aside waited_for first_poll.answer first_poll.after)) (is_stopped 2 (set_aside waited_for first_poll.answer (cut_off_by first_poll.answer first_poll.before)))
       ≡ false
-  hung-waits : isWait (answer_of cutsOffAnother (Call 0 4 1 0) hung) ≡ true
-  hung-refused : endsRefused (run cutsOffAnother (left cutsOffAnother (Call 0 4 1 0) hung) hangs) ≡ true
-  hung-polls : ltb 0 (length (hungPolls cutsOffAnother)) ≡ true
+  hung-waits : is_wait (answer_of cuts_off_another (Call 0 4 1 0) hung) ≡ true
+  hung-refused : ends_refused (run cuts_off_another (left cuts_off_another (Call 0 4 1 0) hung) hangs) ≡ true
+  hung-polls : ltb 0 (length (hung_polls cuts_off_another)) ≡ true
   hung-other :
-      let h = cutPoll cutsOffAnother in
-      eqb (state 2 (setAside hungWaited h.answer h.after)) (state 2 (setAside hungWaited h.answer (cutOffBy h.answer h.before))) ≡ false
-  ours-hung-waits : isWait (answer_of step (Call 0 4 1 0) hung) ≡ true
-  ours-hung-refused : endsRefused (run step (left step (Call 0 4 1 0) hung) hangs) ≡ true
-  ours-failed : eqb (state 1 (cutPoll step).after) 3 ≡ true
-  ours-stopped : eqb (isStopped 2 (cutPoll step).after) 1 ≡ true
-  ours-waits : isWait (answer_of step (Call 0 4 1 0) started) ≡ true
-  ours-denied : endsRefused (run step (left step (Call 0 4 1 0) started) denies) ≡ true
-  code-8 : (isObeyed (Call 0 8 0 0) booted && refuses (Call 0 8 0 0) [] booted) ≡ true
-  code-5 : (isObeyed (Call 0 5 4 0) booted && refuses (Call 0 5 4 0) [] booted) ≡ false
+      let h = cut_poll cuts_off_another in
+      eqb (state 2 (set_aside hung_waited h.answer h.after)) (state 2 (set_aside hung_waited h.answer (cut_off_by h.answer h.before))) ≡ false
+  ours-hung-waits : is_wait (answer_of step (Call 0 4 1 0) hung) ≡ true
+  ours-hung-refused : ends_refused (run step (left step (Call 0 4 1 0) hung) hangs) ≡ true
+  ours-failed : eqb (state 1 (cut_poll step).after) 3 ≡ true
+  ours-stopped : eqb (is_stopped 2 (cut_poll step).after) 1 ≡ true
+  ours-waits : is_wait (answer_of step (Call 0 4 1 0) started) ≡ true
+  ours-denied : ends_refused (run step (left step (Call 0 4 1 0) started) denies) ≡ true
+  code-8 : (is_obeyed (Call 0 8 0 0) booted && refuses (Call 0 8 0 0) [] booted) ≡ true
+  code-5 : (is_obeyed (Call 0 5 4 0) booted && refuses (Call 0 5 4 0) [] booted) ≡ false
 
 runs : Runs
-unfolding Lists.all Lists.any Lists.pairwise Lists.from Lists.same Rules.firstRule CpuSet.member CpuSet.number_of CpuSet.subset CpuSet.meets CpuSet.is_empty CpuSet.union CpuSet.without CpuSet.below CpuSet.countBelow CpuSet.count Fields.littleEndian Fields.field Fields.zeros Fields.leading Fields.isName Fields.padded Regions.regionOf Regions.noRegion Regions.wholePages Regions.placed Regions.flagsOk Regions.commOk Regions.overlap Regions.inside Regions.overlapVirt Regions.overlapPhys Regions.apart Regions.clearOf Regions.insidePhys Tables.regionAt Tables.regionsOf Tables.table_of SystemRecord.systemOf SystemRecord.systemForm SystemRecord.bootRegionOk SystemRecord.systemValid SystemRecord.outOfRange SystemRecord.overdrawn SystemRecord.bootAnswer SystemRecord.readSystem CellRecord.cell_of CellRecord.versionOk CellRecord.limitOk CellRecord.cellForm CellRecord.cellRegionOk CellRecord.cellValid CellRecord.cellAnswer CellRecord.readCell Machine.freshCpu Machine.noComm Machine.noCell Machine.firstMachine Machine.powerAfter Machine.bootOf Room.region Room.box Room.cellRecord Room.search Room.limitedSearch Room.index Room.notes Run.after Run.run Room.booted Room.started Room.withNotes Room.phaseNumber State.first State.hasId State.active State.waits State.withWaiting State.withPower State.withPool State.withIds State.withRootCpus State.withCell State.withComm State.withCpus State.answered Unobeyed.isOn Unobeyed.storeDenied Unobeyed.unobeyed Queries.getInfo Queries.getState Queries.cpuGetInfo Create.otherCellLocked Create.invalid Create.nameInUse Create.conflict Create.conflicts Create.regionInUse Create.busy Create.freeId Create.noRoom Effects.bump Effects.countExit Effects.counted Effects.storeWord Effects.stored Effects.failCpu Effects.allFailed Effects.cellFailed Effects.faulted Effects.changeIn Effects.changeCpus Effects.cpusChanged Effects.startCpu Effects.stopCpu Effects.addId Effects.dropId Effects.newCell Effects.newComm Effects.cellCreated Effects.withPhase Effects.inPhase Effects.clearWords Effects.cellStarted Effects.cellLoadable Effects.cellCutOff Effects.cellDestroyed Effects.allDestroyed Effects.disabled Effects.effect Asking.mayBeMessaged Asking.nextToMessage Asking.asks Asking.tells Asking.isDestroy Asking.message Asking.waitFor Asking.finished Asking.endCode Asking.tell Asking.carryOut Asking.noneToAsk Asking.ask Asking.isHeard Asking.consents Asking.hear Asking.isLastPoll Asking.pollsAfter Asking.withPolls Asking.cutsOff Asking.hearsAt Asking.heardAt Asking.stillWaits Asking.heardIn Asking.pollCell Asking.poll Calls.disableCall Calls.createCall Calls.targetCall Calls.callByCode Calls.call Step.obeyed Step.step CommRegion.bytes total to_cell phase isStopped left onlySearch disables firstPoll waitedFor state hung hangs hungPolls cutPoll hungWaited WholeCall.nowWaited answer_of aside Answers.isNegative Answers.isUnobeyed AtOnce.refusalLeaves Run.isPoll Answers.is_code Answers.isWait WholeCall.ownPolls WholeCall.setAside WholeCall.cutOffBy Unobeyed.isObeyed WhenRefused.callRefused WhenRefused.waitingRefused WhenRefused.refuses Wrong.onCall Wrong.countsUnobeyed Wrong.countsNoRefusal Wrong.withRequest Wrong.leavesMessage Wrong.loadsFirst Wrong.messagesAnother Wrong.stopsHeard Wrong.cutsOffAnother Wrong.doesNothing Wrong.answersZero Wrong.refusesAll
+unfolding Lists.all Lists.any Lists.pairwise Lists.from Lists.same Rules.first_rule CpuSet.member CpuSet.number_of CpuSet.subset CpuSet.meets CpuSet.is_empty CpuSet.union CpuSet.without CpuSet.below CpuSet.count_below CpuSet.count Fields.little_endian Fields.field Fields.zeros Fields.leading Fields.is_name Fields.padded Regions.region_of Regions.no_region Regions.whole_pages Regions.placed Regions.flags_ok Regions.comm_ok Regions.overlap Regions.inside Regions.overlap_virt Regions.overlap_phys Regions.apart Regions.clear_of Regions.inside_phys Tables.region_at Tables.regions_of Tables.table_of SystemRecord.system_of SystemRecord.system_form SystemRecord.boot_region_ok SystemRecord.system_valid SystemRecord.out_of_range SystemRecord.overdrawn SystemRecord.boot_answer SystemRecord.read_system CellRecord.cell_of CellRecord.version_ok CellRecord.limit_ok CellRecord.cell_form CellRecord.cell_region_ok CellRecord.cell_valid CellRecord.cell_answer CellRecord.read_cell Machine.fresh_cpu Machine.no_comm Machine.no_cell Machine.first_machine Machine.power_after Machine.boot_of Room.region Room.box Room.cell_record Room.search Room.limited_search Room.index Room.notes Run.after Run.run Room.booted Room.started Room.with_notes Room.phase_number State.first State.has_id State.active State.waits State.with_waiting State.with_power State.with_pool State.with_ids State.with_root_cpus State.with_cell State.with_comm State.with_cpus State.answered Unobeyed.is_on Unobeyed.store_denied Unobeyed.unobeyed Queries.get_info Queries.get_state Queries.cpu_get_info Create.other_cell_locked Create.invalid Create.name_in_use Create.conflict Create.conflicts Create.region_in_use Create.busy Create.free_id Create.no_room Effects.bump Effects.count_exit Effects.counted Effects.store_word Effects.stored Effects.fail_cpu Effects.all_failed Effects.cell_failed Effects.faulted Effects.change_in Effects.change_cpus Effects.cpus_changed Effects.start_cpu Effects.stop_cpu Effects.add_id Effects.drop_id Effects.new_cell Effects.new_comm Effects.cell_created Effects.with_phase Effects.in_phase Effects.clear_words Effects.cell_started Effects.cell_loadable Effects.cell_cut_off Effects.cell_destroyed Effects.all_destroyed Effects.disabled Effects.effect Asking.may_be_messaged Asking.next_to_message Asking.asks Asking.tells Asking.is_destroy Asking.message Asking.wait_for Asking.finished Asking.end_code Asking.tell Asking.carry_out Asking.none_to_ask Asking.ask Asking.is_heard Asking.consents Asking.hear Asking.is_last_poll Asking.polls_after Asking.with_polls Asking.cuts_off Asking.hears_at Asking.heard_at Asking.still_waits Asking.heard_in Asking.poll_cell Asking.poll Calls.disable_call Calls.create_call Calls.target_call Calls.call_by_code Calls.call Step.obeyed Step.step CommRegion.bytes total to_cell phase is_stopped left only_search disables first_poll waited_for state hung hangs hung_polls cut_poll hung_waited WholeCall.now_waited answer_of aside Answers.is_negative Answers.is_unobeyed AtOnce.refusal_leaves Run.is_poll Answers.is_code Answers.is_wait WholeCall.own_polls WholeCall.set_aside WholeCall.cut_off_by Unobeyed.is_obeyed WhenRefused.call_refused WhenRefused.waiting_refused WhenRefused.refuses Wrong.on_call Wrong.counts_unobeyed Wrong.counts_no_refusal Wrong.with_request Wrong.leaves_message Wrong.loads_first Wrong.messages_another Wrong.stops_heard Wrong.cuts_off_another Wrong.does_nothing Wrong.answers_zero Wrong.refuses_all
 runs = record {
   outside = refl;
   outside-counted = refl;
@@ -189,68 +189,68 @@ runs = record {
 }
 
 -- the claim about a whole call is not empty: Destroy of `search`, left waiting and denied
-pub denied-call : (isWait (step (Call 0 4 1 0) [] started).answer ≡ true) × (endsRefused (run step (step (Call 0 4 1 0) [] started).machine denies) ≡ true)
+pub denied-call : (is_wait (step (Call 0 4 1 0) [] started).answer ≡ true) × (ends_refused (run step (step (Call 0 4 1 0) [] started).machine denies) ≡ true)
 unfolding left answer_of
 denied-call = (runs.ours-waits, runs.ours-denied)
 
 -- and so is Destroy of a `search` that hangs: refused at the poll that cuts it off, it leaves it failed and stopped
-pub cut-off-call : (endsRefused (run step (step (Call 0 4 1 0) [] hung).machine hangs) ≡ true)
-    × (eqb (state 1 (cutPoll step).after) 3 ≡ true) × (eqb (isStopped 2 (cutPoll step).after) 1 ≡ true)
+pub cut-off-call : (ends_refused (run step (step (Call 0 4 1 0) [] hung).machine hangs) ≡ true)
+    × (eqb (state 1 (cut_poll step).after) 3 ≡ true) × (eqb (is_stopped 2 (cut_poll step).after) 1 ≡ true)
 unfolding left answer_of
 cut-off-call = (runs.ours-hung-refused, runs.ours-failed, runs.ours-stopped)
 
 -- ---- what they refute
 
-pub counts-unobeyed : UnobeyedKeeps countsUnobeyed → ⊥
+pub counts-unobeyed : UnobeyedKeeps counts_unobeyed → ⊥
 unfolding left answer_of
 counts-unobeyed claim = unequal (total 7) _ _ runs.outside-counted (claim (Call 7 5 4 0) [] booted runs.outside)
 
-pub counts-no-refusal : RefusedAtOnce countsNoRefusal → ⊥
+pub counts-no-refusal : RefusedAtOnce counts_no_refusal → ⊥
 unfolding left answer_of
 counts-no-refusal claim = unequal (total 0) _ _ runs.no-code-counted (claim (Call 0 8 0 0) [] booted runs.no_code)
 
-pub leaves-message : RefusedAtOnce leavesMessage → ⊥
+pub leaves-message : RefusedAtOnce leaves_message → ⊥
 unfolding left answer_of
 leaves-message claim = unequal (to_cell 1) _ _ runs.no-code-message (claim (Call 0 8 1 0) [] started runs.no-code-1)
 
-pub loads-first : RefusedKeeps loadsFirst → ⊥
+pub loads-first : RefusedKeeps loads_first → ⊥
 unfolding left answer_of aside
 loads-first claim = unequal (phase 1) _ _ runs.loads-phase (claim 0 3 1 0 [] started denies runs.loads-waits runs.loads-denied).called
 
-pub messages-another : RefusedKeeps messagesAnother → ⊥
+pub messages-another : RefusedKeeps messages_another → ⊥
 unfolding left answer_of aside
 messages-another claim =
-    unequal (to_cell 2) _ _ runs.another-message (claim 0 4 1 0 [] withNotes denies runs.another-waits runs.another-denied).called
+    unequal (to_cell 2) _ _ runs.another-message (claim 0 4 1 0 [] with_notes denies runs.another-waits runs.another-denied).called
 
 -- the first of some steps
 first-kept : (waited : ℕ) (hs : List Happened) (d : Happened) → ltb 0 (length hs) ≡ true → OnlyMessages waited hs
-    → let h = get_or hs 0 d in setAside waited h.answer h.after ≡ setAside waited h.answer (cutOffBy h.answer h.before)
+    → let h = get_or hs 0 d in set_aside waited h.answer h.after ≡ set_aside waited h.answer (cut_off_by h.answer h.before)
 unfolding OnlyMessages
 first-kept waited [] d l o = absurd (true≢false (sym l))
 first-kept waited (h ∷ hs) d l o = o.0
 
-pub stops-heard : RefusedKeeps stopsHeard → ⊥
-unfolding left answer_of firstPoll disables waitedFor
+pub stops-heard : RefusedKeeps stops_heard → ⊥
+unfolding left answer_of first_poll disables waited_for
 stops-heard claim =
-    unequal (isStopped 2) _ _ runs.stops-cpu
-    (first-kept waitedFor disables (happens step logPoll booted) runs.stops-polls
-    (claim 0 0 0 0 [] withNotes onlySearch runs.stops-waits runs.stops-denied).polled)
+    unequal (is_stopped 2) _ _ runs.stops-cpu
+    (first-kept waited_for disables (happens step log_poll booted) runs.stops-polls
+    (claim 0 0 0 0 [] with_notes only_search runs.stops-waits runs.stops-denied).polled)
 
-pub cuts-off-another : RefusedKeeps cutsOffAnother → ⊥
-unfolding left answer_of cutPoll hungPolls hungWaited
+pub cuts-off-another : RefusedKeeps cuts_off_another → ⊥
+unfolding left answer_of cut_poll hung_polls hung_waited
 cuts-off-another claim =
     unequal (state 2) _ _ runs.hung-other
-    (first-kept hungWaited (hungPolls cutsOffAnother) (happens step logPoll booted) runs.hung-polls
+    (first-kept hung_waited (hung_polls cuts_off_another) (happens step log_poll booted) runs.hung-polls
     (claim 0 4 1 0 [] hung hangs runs.hung-waits runs.hung-refused).polled)
 
-pub does-nothing : NegativeIsRefusal doesNothing → ⊥
-unfolding doesNothing answered isNegative
+pub does-nothing : NegativeIsRefusal does_nothing → ⊥
+unfolding does_nothing answered is_negative
 does-nothing claim = true≢false (sym runs.code-8 ∙ sym (claim (Call 0 8 0 0) [] booted))
 
-pub answers-zero : NegativeIsRefusal answersZero → ⊥
-unfolding answersZero answered isNegative
+pub answers-zero : NegativeIsRefusal answers_zero → ⊥
+unfolding answers_zero answered is_negative
 answers-zero claim = true≢false (sym runs.code-8 ∙ sym (claim (Call 0 8 0 0) [] booted))
 
-pub refuses-all : NegativeIsRefusal refusesAll → ⊥
-unfolding refusesAll answered isNegative
+pub refuses-all : NegativeIsRefusal refuses_all → ⊥
+unfolding refuses_all answered is_negative
 refuses-all claim = true≢false (claim (Call 0 5 4 0) [] booted ∙ runs.code-5)

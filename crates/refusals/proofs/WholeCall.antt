@@ -25,15 +25,15 @@ use Rattle.machine_state.specs.declared.Answer.{Answer}
 use Rattle.machine_state.specs.declared.Answer.TheVariants.{Wait}
 use Rattle.machine_state.specs.declared.Machine.{Machine}
 use Rattle.machine_state.specs.declared.Stepped.{Stepped}
-use Rattle.rules.specs.State.{rootId, commAt, waits, withWaiting, answered}
-use Rattle.rules.specs.Effects.{counted, callCounter, effect, cellCutOff}
-use Rattle.rules.specs.Create.{otherCellLocked, freeId}
-use Rattle.rules.specs.Asking.{isDestroy, asking, telling, waitFor, finished, ask, poll, isHeard, withPolls, cutsOff, hearsAt, heardAt, heardIn, stillWaits, pollCell, shutdownRequest, reconfigCompleted}
+use Rattle.rules.specs.State.{root_id, comm_at, waits, with_waiting, answered}
+use Rattle.rules.specs.Effects.{counted, call_counter, effect, cell_cut_off}
+use Rattle.rules.specs.Create.{other_cell_locked, free_id}
+use Rattle.rules.specs.Asking.{is_destroy, asking, telling, wait_for, finished, ask, poll, is_heard, with_polls, cuts_off, hears_at, heard_at, heard_in, still_waits, poll_cell, shutdown_request, reconfig_completed}
 use Rattle.rules.specs.Calls.{ends}
 use Rattle.rules.specs.Step.{obeyed, step}
-use Rattle.rules.specs.Run.{Line, Happened, run, isPoll}
-use Rattle.rules.specs.Answers.{isNegative, isUnobeyed, is_code, isWait}
-use Rattle.refusals.specs.WholeCall.{ownPolls, endsRefused, noneWaiting, uncounted, setAside, nowWaited, cutOffBy, OnlyMessages, OwnStepsKeep, RefusedKeeps}
+use Rattle.rules.specs.Run.{Line, Happened, run, is_poll}
+use Rattle.rules.specs.Answers.{is_negative, is_unobeyed, is_code, is_wait}
+use Rattle.refusals.specs.WholeCall.{own_polls, ends_refused, none_waiting, uncounted, set_aside, now_waited, cut_off_by, OnlyMessages, OwnStepsKeep, RefusedKeeps}
 use Rattle.rules.proofs.Cases.{word-cases, step-cases, ask-cases, call-cases, poll-asking, poll-telling}
 use Rattle.refusals.proofs.Kept.{step_waits, message-only}
 
@@ -41,23 +41,23 @@ use Rattle.refusals.proofs.Kept.{step_waits, message-only}
 abbrev met : Line → Machine → Stepped → Happened
 met l m s = record { before = m; line = l; answer = s.answer; after = s.machine }
 
-abbrev pollLine : List ℕ → Line
-pollLine bytes = record { event = Poll; bytes = bytes }
+abbrev poll_line : List ℕ → Line
+poll_line bytes = record { event = Poll; bytes = bytes }
 
 -- that step and those after it
 abbrev on : Line → List Line → Machine → Stepped → List Happened
 on l ls m s = met l m s ∷ run step s.machine ls
 
 -- what a run shows of an event that is no poll: nothing
-between : (l : Line) (ls : List Line) (m : Machine) → isPoll l.event ≡ false
-    → ownPolls (run step m (l ∷ ls)) ≡ ownPolls (run step (step l.event l.bytes m).machine ls)
-unfolding run ownPolls
-between l ls m e = rw (e, ownPolls)
+between : (l : Line) (ls : List Line) (m : Machine) → is_poll l.event ≡ false
+    → own_polls (run step m (l ∷ ls)) ≡ own_polls (run step (step l.event l.bytes m).machine ls)
+unfolding run own_polls
+between l ls m e = rw (e, own_polls)
 
 -- a poll, where a call waits
 at-poll : (P : Stepped → Type 0) (kind : CallKind) (stage : Stage) (bytes : List ℕ) (m : Machine) → m.waiting ≡ Pending kind stage
-    → ((w : Answer) → isUnobeyed w ≡ true → P (answered w m))
-    → P (pollCell kind stage (cell_of bytes) m)
+    → ((w : Answer) → is_unobeyed w ≡ true → P (answered w m))
+    → P (poll_cell kind stage (cell_of bytes) m)
     → P (step Poll bytes m)
 unfolding obeyed poll
 at-poll P kind stage bytes m e word polled =
@@ -66,33 +66,33 @@ at-poll P kind stage bytes m e word polled =
 -- ---- a call that tells does not end with a negative code
 
 Ends : List Line → Machine → Type 0
-Ends ls m = endsRefused (run step m ls) ≡ false
+Ends ls m = ends_refused (run step m ls) ≡ false
 
 Tells : CallKind → ℕ → ℕ → ℕ → Machine → Type 0
 Tells kind target c polls m = m.waiting ≡ Pending kind (telling target c polls)
 
 module _ (bytes : List ℕ) (ls : List Line) (rest : (kind : CallKind) (target c polls : ℕ) (m : Machine) → Tells kind target c polls m → Ends ls m) where
   EndsWell : Machine → Stepped → Type 0
-  EndsWell m s = endsRefused (on (pollLine bytes) ls m s) ≡ false
+  EndsWell m s = ends_refused (on (poll_line bytes) ls m s) ≡ false
 
-  tells-word : (m : Machine) (w : Answer) → isUnobeyed w ≡ true → Ends ls m → EndsWell m (answered w m)
-  unfolding EndsWell Ends any ownPolls isPoll is_code isNegative answered
+  tells-word : (m : Machine) (w : Answer) → is_unobeyed w ≡ true → Ends ls m → EndsWell m (answered w m)
+  unfolding EndsWell Ends any own_polls is_poll is_code is_negative answered
   tells-word m w u e = word-cases (λ (a : Answer). EndsWell m (answered a m)) e e e e e e w u
 
   tells-wait : (m : Machine) (c : ℕ) (k : Machine) → Ends ls k → EndsWell m (answered (Wait c) k)
-  unfolding EndsWell Ends any ownPolls isPoll is_code isNegative answered
+  unfolding EndsWell Ends any own_polls is_poll is_code is_negative answered
   tells-wait m c k e = e
 
   tells-end : (m : Machine) (n : ℕ) (k : Machine) → EndsWell m (finished (pos n) k)
-  unfolding EndsWell any ownPolls isPoll is_code isNegative answered finished
+  unfolding EndsWell any own_polls is_poll is_code is_negative answered finished
   tells-end m n k = refl
 
-  tells-on : (kind : CallKind) (target c : ℕ) (m k : Machine) → EndsWell m (waitFor kind (telling target c 0) reconfigCompleted k)
-  unfolding waitFor Tells withWaiting
+  tells-on : (kind : CallKind) (target c : ℕ) (m k : Machine) → EndsWell m (wait_for kind (telling target c 0) reconfig_completed k)
+  unfolding wait_for Tells with_waiting
   tells-on kind target c m k = tells-wait m c _ (rest kind target c 0 _ refl)
 
-  tells-still : (kind : CallKind) (target c polls : ℕ) (m : Machine) → EndsWell m (answered (Wait c) (stillWaits kind (telling target c polls) m))
-  unfolding stillWaits withPolls Tells withWaiting
+  tells-still : (kind : CallKind) (target c polls : ℕ) (m : Machine) → EndsWell m (answered (Wait c) (still_waits kind (telling target c polls) m))
+  unfolding still_waits with_polls Tells with_waiting
   tells-still kind target c polls m = tells-wait m c _ (rest kind target c _ _ refl)
 
   tells-poll : (kind : CallKind) (target c polls : ℕ) (m : Machine) → Tells kind target c polls m → EndsWell m (step Poll bytes m)
@@ -103,8 +103,8 @@ module _ (bytes : List ℕ) (ls : List Line) (rest : (kind : CallKind) (target c
       (λ d l. tells-on kind target d m _)
       (λ n. tells-end m n _))
 
-event-cases : (P : Event → Type 0) → P Poll → ((e : Event) → isPoll e ≡ false → P e) → (e : Event) → P e
-unfolding isPoll
+event-cases : (P : Event → Type 0) → P Poll → ((e : Event) → is_poll e ≡ false → P e) → (e : Event) → P e
+unfolding is_poll
 event-cases P p f (Call cpu code a1 a2) = f (Call cpu code a1 a2) refl
 event-cases P p f (Store cpu word value) = f (Store cpu word value) refl
 event-cases P p f (Fault cpu) = f (Fault cpu) refl
@@ -116,13 +116,13 @@ abbrev line : Event → List ℕ → Line
 line e bytes = record { event = e; bytes = bytes }
 
 telling-ends : (ls : List Line) (kind : CallKind) (target c polls : ℕ) (m : Machine) → Tells kind target c polls m → Ends ls m
-unfolding Ends Tells EndsWell run any ownPolls waits
+unfolding Ends Tells EndsWell run any own_polls waits
 telling-ends [] kind target c polls m h = refl
 telling-ends (l ∷ ls) kind target c polls m h =
     event-cases (λ (e : Event). Ends (line e l.bytes ∷ ls) m)
     (tells-poll l.bytes ls (telling-ends ls) kind target c polls m h)
     (λ e p.
-    ap (any (λ (s : Happened). isNegative s.answer)) (between (line e l.bytes) ls m p)
+    ap (any (λ (s : Happened). is_negative s.answer)) (between (line e l.bytes) ls m p)
     ∙ telling-ends ls kind target c polls _ (step_waits (Pending kind (telling target c polls)) refl e l.bytes m p h))
     l.event
 
@@ -132,7 +132,7 @@ Asks : CallKind → ℕ → ℕ → ℕ → Machine → Type 0
 Asks kind target c polls m = m.waiting ≡ Pending kind (asking target c polls)
 
 Keeps : List Line → ℕ → Machine → Type 0
-Keeps ls c m = endsRefused (run step m ls) ≡ true → OnlyMessages c (ownPolls (run step m ls))
+Keeps ls c m = ends_refused (run step m ls) ≡ true → OnlyMessages c (own_polls (run step m ls))
 
 -- no call messages the cell that it waits for, or root
 other-cell : (a b : ℕ) → a < b → eqb b a ≡ false
@@ -143,19 +143,19 @@ other-cell a b l = is_false (eqb b a) (λ t. not-below a b l (eqb→eq b a t))
 
 -- a step that messages the next cell
 messages : (waited : ℕ) (kind : CallKind) (target c : ℕ) (m : Machine) → waited < c
-    → setAside waited (Wait c) (waitFor kind (asking target c 0) shutdownRequest m).machine ≡ setAside waited (Wait c) m
-unfolding setAside waitFor answered
-messages waited kind target c m l = rw (other-cell waited c l, setAside) (message-only c shutdownRequest (Pending kind (asking target c 0)) m)
+    → set_aside waited (Wait c) (wait_for kind (asking target c 0) shutdown_request m).machine ≡ set_aside waited (Wait c) m
+unfolding set_aside wait_for answered
+messages waited kind target c m l = rw (other-cell waited c l, set_aside) (message-only c shutdown_request (Pending kind (asking target c 0)) m)
 
 -- a poll that hears nothing counts, and cuts off no cell
-still-uncounted : (kind : CallKind) (stage : Stage) (m : Machine) → m.waiting ≡ Pending kind stage → uncounted (stillWaits kind stage m) ≡ uncounted m
-unfolding stillWaits withPolls withWaiting
-still-uncounted kind stage m e = ap (λ (w : Waiting). withWaiting (withPolls 0 w) m) (sym e)
+still-uncounted : (kind : CallKind) (stage : Stage) (m : Machine) → m.waiting ≡ Pending kind stage → uncounted (still_waits kind stage m) ≡ uncounted m
+unfolding still_waits with_polls with_waiting
+still-uncounted kind stage m e = ap (λ (w : Waiting). with_waiting (with_polls 0 w) m) (sym e)
 
-none-cut : (stage : Stage) (m : Machine) → hearsAt stage m ≡ false → heardAt stage m ≡ m
-unfolding hearsAt heardAt
+none-cut : (stage : Stage) (m : Machine) → hears_at stage m ≡ false → heard_at stage m ≡ m
+unfolding hears_at heard_at
 none-cut stage m u =
-    ap (λ (b : Bool). elim b [ true ↦ cellCutOff stage.cell m | false ↦ m ]) (or_right (isHeard (commAt m stage.cell)) (cutsOff stage m) u)
+    ap (λ (b : Bool). elim b [ true ↦ cell_cut_off stage.cell m | false ↦ m ]) (or_right (is_heard (comm_at m stage.cell)) (cuts_off stage m) u)
   where
     or_right : (a b : Bool) → (a || b) ≡ false → b ≡ false
     or_right true b e = absurd (true≢false e)
@@ -163,13 +163,13 @@ none-cut stage m u =
 
 module _ (bytes : List ℕ) (ls : List Line) (rest : (kind : CallKind) (target c polls : ℕ) (m : Machine) → Asks kind target c polls m → Keeps ls c m) where
   KeepsOn : ℕ → Machine → Stepped → Type 0
-  KeepsOn c m s = endsRefused (on (pollLine bytes) ls m s) ≡ true → OnlyMessages c (ownPolls (on (pollLine bytes) ls m s))
+  KeepsOn c m s = ends_refused (on (poll_line bytes) ls m s) ≡ true → OnlyMessages c (own_polls (on (poll_line bytes) ls m s))
 
-  asks-word : (c : ℕ) (m : Machine) (w : Answer) → isUnobeyed w ≡ true → Keeps ls c m → KeepsOn c m (answered w m)
-  unfolding KeepsOn Keeps OnlyMessages cutOffBy isUnobeyed any ownPolls isPoll is_code isNegative answered setAside nowWaited
+  asks-word : (c : ℕ) (m : Machine) (w : Answer) → is_unobeyed w ≡ true → Keeps ls c m → KeepsOn c m (answered w m)
+  unfolding KeepsOn Keeps OnlyMessages cut_off_by is_unobeyed any own_polls is_poll is_code is_negative answered set_aside now_waited
   asks-word c m w u k = word-cases (λ (a : Answer). KeepsOn c m (answered a m)) go go go go go go w u
     where
-      go : endsRefused (run step m ls) ≡ true → (m ≡ m) × OnlyMessages c (ownPolls (run step m ls))
+      go : ends_refused (run step m ls) ≡ true → (m ≡ m) × OnlyMessages c (own_polls (run step m ls))
       go t = (refl, k t)
 
   module _ (kind : CallKind) (target c polls : ℕ) (m : Machine) (h : Asks kind target c polls m) where
@@ -177,32 +177,32 @@ module _ (bytes : List ℕ) (ls : List Line) (rest : (kind : CallKind) (target c
     stage = asking target c polls
 
     -- the machine on which the poll hears
-    heard-here : heardAt stage m ≡ heardIn m.waiting m
-    unfolding Asks heardIn
-    heard-here = ap (λ (w : Waiting). heardIn w m) (sym h)
+    heard-here : heard_at stage m ≡ heard_in m.waiting m
+    unfolding Asks heard_in
+    heard-here = ap (λ (w : Waiting). heard_in w m) (sym h)
 
-    asks-wait : hearsAt stage m ≡ false → KeepsOn c m (answered (Wait c) (stillWaits kind stage m))
-    unfolding KeepsOn Keeps Asks OnlyMessages cutOffBy isUnobeyed any ownPolls isPoll is_code isNegative answered nowWaited stillWaits withPolls withWaiting setAside
+    asks-wait : hears_at stage m ≡ false → KeepsOn c m (answered (Wait c) (still_waits kind stage m))
+    unfolding KeepsOn Keeps Asks OnlyMessages cut_off_by is_unobeyed any own_polls is_poll is_code is_negative answered now_waited still_waits with_polls with_waiting set_aside
     asks-wait u t = (
-      rw (eq-eqb c c refl, setAside) (still-uncounted kind stage m h ∙ ap uncounted (sym (none-cut stage m u) ∙ heard-here)),
+      rw (eq-eqb c c refl, set_aside) (still-uncounted kind stage m h ∙ ap uncounted (sym (none-cut stage m u) ∙ heard-here)),
       rest kind target c _ _ refl t,
     )
 
-    asks-end : KeepsOn c m (finished EPERM (heardAt stage m))
-    unfolding KeepsOn OnlyMessages cutOffBy isUnobeyed any ownPolls isPoll is_code isNegative answered finished setAside withWaiting
-    asks-end t = (ap noneWaiting heard-here, tt)
+    asks-end : KeepsOn c m (finished EPERM (heard_at stage m))
+    unfolding KeepsOn OnlyMessages cut_off_by is_unobeyed any own_polls is_poll is_code is_negative answered finished set_aside with_waiting
+    asks-end t = (ap none_waiting heard-here, tt)
 
-    asks-on : (d : ℕ) → c < d → KeepsOn c m (waitFor kind (asking target d 0) shutdownRequest (heardAt stage m))
-    unfolding KeepsOn Keeps Asks OnlyMessages cutOffBy isUnobeyed any ownPolls isPoll is_code isNegative answered nowWaited waitFor withWaiting
-    asks-on d l t = (messages c kind target d (heardAt stage m) l ∙ ap (setAside c (Wait d)) heard-here, rest kind target d 0 _ refl t)
+    asks-on : (d : ℕ) → c < d → KeepsOn c m (wait_for kind (asking target d 0) shutdown_request (heard_at stage m))
+    unfolding KeepsOn Keeps Asks OnlyMessages cut_off_by is_unobeyed any own_polls is_poll is_code is_negative answered now_waited wait_for with_waiting
+    asks-on d l t = (messages c kind target d (heard_at stage m) l ∙ ap (set_aside c (Wait d)) heard-here, rest kind target d 0 _ refl t)
 
   -- the effect has come: no negative end follows
-  asks-tells : (kind : CallKind) (target c d : ℕ) (m k : Machine) → KeepsOn c m (waitFor kind (telling target d 0) reconfigCompleted k)
-  unfolding KeepsOn Ends Tells any ownPolls isPoll is_code isNegative answered waitFor withWaiting
+  asks-tells : (kind : CallKind) (target c d : ℕ) (m k : Machine) → KeepsOn c m (wait_for kind (telling target d 0) reconfig_completed k)
+  unfolding KeepsOn Ends Tells any own_polls is_poll is_code is_negative answered wait_for with_waiting
   asks-tells kind target c d m k t = absurd (true≢false (sym t ∙ telling-ends ls kind target d 0 _ refl))
 
   asks-ends : (c : ℕ) (m : Machine) (n : ℕ) (k : Machine) → KeepsOn c m (finished (pos n) k)
-  unfolding KeepsOn any ownPolls isPoll is_code isNegative answered finished
+  unfolding KeepsOn any own_polls is_poll is_code is_negative answered finished
   asks-ends c m n k t = absurd (true≢false (sym t))
 
   asks-poll : (kind : CallKind) (target c polls : ℕ) (m : Machine) → Asks kind target c polls m → KeepsOn c m (step Poll bytes m)
@@ -216,13 +216,13 @@ module _ (bytes : List ℕ) (ls : List Line) (rest : (kind : CallKind) (target c
       (λ n. asks-ends c m n _))
 
 asking-keeps : (ls : List Line) (kind : CallKind) (target c polls : ℕ) (m : Machine) → Asks kind target c polls m → Keeps ls c m
-unfolding Keeps Asks KeepsOn OnlyMessages run any ownPolls waits
+unfolding Keeps Asks KeepsOn OnlyMessages run any own_polls waits
 asking-keeps [] kind target c polls m h = λ t. tt
 asking-keeps (l ∷ ls) kind target c polls m h =
     event-cases (λ (e : Event). Keeps (line e l.bytes ∷ ls) c m)
     (asks-poll l.bytes ls (asking-keeps ls) kind target c polls m h)
     (λ e p.
-    subst (λ (hs : List Happened). any (λ (s : Happened). isNegative s.answer) hs ≡ true → OnlyMessages c hs)
+    subst (λ (hs : List Happened). any (λ (s : Happened). is_negative s.answer) hs ≡ true → OnlyMessages c hs)
     (sym (between (line e l.bytes) ls m p))
     (asking-keeps ls kind target c polls _ (step_waits (Pending kind (asking target c polls)) refl e l.bytes m p h)))
     l.event
@@ -233,36 +233,36 @@ module _ (cpu code a1 a2 : ℕ) (bytes : List ℕ) (m : Machine) (ls : List Line
   -- what is claimed of the call that answered and left `s`
   Claimed : Stepped → Type 0
   Claimed s =
-      isWait s.answer ≡ true → endsRefused (run step s.machine ls) ≡ true
-      → OwnStepsKeep cpu (met (line (Call cpu code a1 a2) bytes) m s) (ownPolls (run step s.machine ls))
+      is_wait s.answer ≡ true → ends_refused (run step s.machine ls) ≡ true
+      → OwnStepsKeep cpu (met (line (Call cpu code a1 a2) bytes) m s) (own_polls (run step s.machine ls))
 
-  no-wait : (s : Stepped) → isWait s.answer ≡ false → Claimed s
+  no-wait : (s : Stepped) → is_wait s.answer ≡ false → Claimed s
   unfolding Claimed
   no-wait s e w t = absurd (true≢false (sym w ∙ e))
 
   counts : Machine
-  counts = counted callCounter cpu m
+  counts = counted call_counter cpu m
 
-  asks-first : (kind : CallKind) (target : ℕ) (new : CellConfig) → (isDestroy kind && otherCellLocked target counts) ≡ false
+  asks-first : (kind : CallKind) (target : ℕ) (new : CellConfig) → (is_destroy kind && other_cell_locked target counts) ≡ false
       → Claimed (ask kind target 0 new counts)
-  unfolding isWait answered finished waitFor Claimed Keeps Asks Ends Tells withWaiting nowWaited counts
+  unfolding is_wait answered finished wait_for Claimed Keeps Asks Ends Tells with_waiting now_waited counts
   asks-first kind target new unlocked =
       ask-cases Claimed kind target 0 new counts
-      (λ c l w t. record { called = messages rootId kind target c counts l; polled = asking-keeps ls kind target c 0 _ refl t })
+      (λ c l w t. record { called = messages root_id kind target c counts l; polled = asking-keeps ls kind target c 0 _ refl t })
       (λ locked. absurd (true≢false (sym locked ∙ unlocked)))
       (λ c l w t. absurd (true≢false (sym t ∙ telling-ends ls kind target c 0 _ refl)))
       (λ n. no-wait (finished (pos n) (effect kind target new counts)) refl)
 
   call-keeps : Claimed (step (Call cpu code a1 a2) bytes m)
-  unfolding obeyed answered isWait counts isDestroy
+  unfolding obeyed answered is_wait counts is_destroy
   call-keeps =
       step-cases Claimed (Call cpu code a1 a2) bytes m
-      (λ w u t. no-wait (answered w m) (word-cases (λ (a : Answer). isWait a ≡ false) refl refl refl refl refl refl w u))
+      (λ w u t. no-wait (answered w m) (word-cases (λ (a : Answer). is_wait a ≡ false) refl refl refl refl refl refl w u))
       (λ o. call-cases Claimed cpu code a1 a2 bytes counts
       (record {
         at_once = λ z. no-wait (ends z counts) refl;
-        disables = λ e. asks-first Disable rootId (cell_of bytes) refl;
-        creates = λ e may. asks-first Create (freeId counts) (cell_of bytes) refl;
+        disables = λ e. asks-first Disable root_id (cell_of bytes) refl;
+        creates = λ e may. asks-first Create (free_id counts) (cell_of bytes) refl;
         starts = λ e may. asks-first Start a1 (cell_of bytes) refl;
         loads = λ e may. asks-first SetLoadable a1 (cell_of bytes) refl;
         destroys = λ e may. asks-first Destroy a1 (cell_of bytes) may.unlocked;

@@ -7,27 +7,27 @@ use Rattle.machine_state.specs.declared.Event.{Event}
 use Rattle.machine_state.specs.declared.Event.TheVariants.{Call, Store, Fault, Exit, Poll, Malformed}
 use Rattle.machine_state.specs.declared.Waiting.TheVariants.{NoCall}
 use Rattle.machine_state.specs.declared.Machine.{Machine}
-use Rattle.rules.specs.State.{withWaiting}
-use Rattle.rules.specs.Effects.{counted, callCounter}
-use Rattle.rules.specs.Asking.{heardIn}
+use Rattle.rules.specs.State.{with_waiting}
+use Rattle.rules.specs.Effects.{counted, call_counter}
+use Rattle.rules.specs.Asking.{heard_in}
 use Rattle.rules.specs.Run.{Manager}
-use Rattle.rules.specs.Answers.{isNegative, isUnobeyed}
+use Rattle.rules.specs.Answers.{is_negative, is_unobeyed}
 
 -- "These change nothing at all"
 abbrev pub UnobeyedKeeps : Manager → Type 0
 UnobeyedKeeps manager =
-    (e : Event) (bytes : List ℕ) (m : Machine) → isUnobeyed (manager e bytes m).answer ≡ true → (manager e bytes m).machine ≡ m
+    (e : Event) (bytes : List ℕ) (m : Machine) → is_unobeyed (manager e bytes m).answer ≡ true → (manager e bytes m).machine ≡ m
 
 -- what a negative code leaves: of a call, its caller counted; of a poll, no call waiting, and the cell cut off that its limit cuts off at this
 -- poll. No other event is answered by a code
-unfoldable pub refusalLeaves : Event → Machine → Machine
-refusalLeaves (Call cpu code a1 a2) m = counted callCounter cpu m
-refusalLeaves (Store cpu word value) m = m
-refusalLeaves (Fault cpu) m = m
-refusalLeaves (Exit cpu kind) m = m
-refusalLeaves Poll m = withWaiting NoCall (heardIn m.waiting m)
-refusalLeaves Malformed m = m
+unfoldable pub refusal_leaves : Event → Machine → Machine
+refusal_leaves (Call cpu code a1 a2) m = counted call_counter cpu m
+refusal_leaves (Store cpu word value) m = m
+refusal_leaves (Fault cpu) m = m
+refusal_leaves (Exit cpu kind) m = m
+refusal_leaves Poll m = with_waiting NoCall (heard_in m.waiting m)
+refusal_leaves Malformed m = m
 
 abbrev pub RefusedAtOnce : Manager → Type 0
 RefusedAtOnce manager =
-    (e : Event) (bytes : List ℕ) (m : Machine) → isNegative (manager e bytes m).answer ≡ true → (manager e bytes m).machine ≡ refusalLeaves e m
+    (e : Event) (bytes : List ℕ) (m : Machine) → is_negative (manager e bytes m).answer ≡ true → (manager e bytes m).machine ≡ refusal_leaves e m

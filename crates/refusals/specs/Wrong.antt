@@ -7,87 +7,87 @@ use Rattle.machine_state.specs.declared.Answer.TheVariants.{Code}
 use Rattle.machine_state.specs.declared.Phase.TheVariants.{Loading}
 use Rattle.machine_state.specs.declared.Machine.{Machine}
 use Rattle.machine_state.specs.declared.Stepped.{Stepped}
-use Rattle.rules.specs.State.{cell_at, commAt, withComm, answered}
-use Rattle.rules.specs.Effects.{counted, callCounter, cpusChanged, stopCpu, inPhase, cellCutOff}
-use Rattle.rules.specs.Asking.{message, shutdownRequest}
-use Rattle.rules.specs.Calls.{cellSetLoadable}
+use Rattle.rules.specs.State.{cell_at, comm_at, with_comm, answered}
+use Rattle.rules.specs.Effects.{counted, call_counter, cpus_changed, stop_cpu, in_phase, cell_cut_off}
+use Rattle.rules.specs.Asking.{message, shutdown_request}
+use Rattle.rules.specs.Calls.{cell_set_loadable}
 use Rattle.rules.specs.Step.{step}
 use Rattle.rules.specs.Run.{Manager}
-use Rattle.rules.specs.Answers.{isNegative, isUnobeyed, isWait}
+use Rattle.rules.specs.Answers.{is_negative, is_unobeyed, is_wait}
 
 -- what `change` makes of the machine that our step leaves, where the event is a call and `test` passes on the answer and the code
-unfoldable pub onCall : (Stepped → Bool) → (ℕ → ℕ → ℕ → Machine → Machine → Machine) → Manager
-onCall test change (Call cpu code a1 a2) bytes m =
+unfoldable pub on_call : (Stepped → Bool) → (ℕ → ℕ → ℕ → Machine → Machine → Machine) → Manager
+on_call test change (Call cpu code a1 a2) bytes m =
     let s = step (Call cpu code a1 a2) bytes m in
     elim (test s) [ true ↦ answered s.answer (change cpu code a1 m s.machine) | false ↦ s ]
-onCall test change (Store cpu word value) bytes m = step (Store cpu word value) bytes m
-onCall test change (Fault cpu) bytes m = step (Fault cpu) bytes m
-onCall test change (Exit cpu kind) bytes m = step (Exit cpu kind) bytes m
-onCall test change Poll bytes m = step Poll bytes m
-onCall test change Malformed bytes m = step Malformed bytes m
+on_call test change (Store cpu word value) bytes m = step (Store cpu word value) bytes m
+on_call test change (Fault cpu) bytes m = step (Fault cpu) bytes m
+on_call test change (Exit cpu kind) bytes m = step (Exit cpu kind) bytes m
+on_call test change Poll bytes m = step Poll bytes m
+on_call test change Malformed bytes m = step Malformed bytes m
 
-abbrev pub refusedCall : Stepped → Bool
-refusedCall s = isNegative s.answer
+abbrev pub refused_call : Stepped → Bool
+refused_call s = is_negative s.answer
 
-abbrev pub unobeyedCall : Stepped → Bool
-unobeyedCall s = isUnobeyed s.answer
+abbrev pub unobeyed_call : Stepped → Bool
+unobeyed_call s = is_unobeyed s.answer
 
-abbrev pub leftWaiting : Stepped → Bool
-leftWaiting s = isWait s.answer
+abbrev pub left_waiting : Stepped → Bool
+left_waiting s = is_wait s.answer
 
 -- a call that is not obeyed is counted
-unfoldable pub countsUnobeyed : Manager
-countsUnobeyed = onCall unobeyedCall (λ cpu code a1 before after. counted callCounter cpu after)
+unfoldable pub counts_unobeyed : Manager
+counts_unobeyed = on_call unobeyed_call (λ cpu code a1 before after. counted call_counter cpu after)
 
 -- a refused call is not counted
-unfoldable pub countsNoRefusal : Manager
-countsNoRefusal = onCall refusedCall (λ cpu code a1 before after. before)
+unfoldable pub counts_no_refusal : Manager
+counts_no_refusal = on_call refused_call (λ cpu code a1 before after. before)
 
 -- a call refused at once leaves a message behind, to its target
-unfoldable pub withRequest : ℕ → Machine → Machine
-withRequest id m = withComm id (message shutdownRequest (commAt m id)) m
+unfoldable pub with_request : ℕ → Machine → Machine
+with_request id m = with_comm id (message shutdown_request (comm_at m id)) m
 
-unfoldable pub leavesMessage : Manager
-leavesMessage = onCall refusedCall (λ cpu code a1 before after. withRequest a1 after)
+unfoldable pub leaves_message : Manager
+leaves_message = on_call refused_call (λ cpu code a1 before after. with_request a1 after)
 
 -- Set Loadable opens the cell's pages at the first step, before the cell has been heard
-unfoldable pub loadsFirst : Manager
-loadsFirst =
-    onCall leftWaiting (λ cpu code a1 before after. elim (eqb code cellSetLoadable) [ true ↦ inPhase a1 Loading after | false ↦ after ])
+unfoldable pub loads_first : Manager
+loads_first =
+    on_call left_waiting (λ cpu code a1 before after. elim (eqb code cell_set_loadable) [ true ↦ in_phase a1 Loading after | false ↦ after ])
 
 -- a call that waits messages another cell, too
-unfoldable pub messagesAnother : Manager
-messagesAnother = onCall leftWaiting (λ cpu code a1 before after. withRequest 2 after)
+unfoldable pub messages_another : Manager
+messages_another = on_call left_waiting (λ cpu code a1 before after. with_request 2 after)
 
 -- a poll that moves on stops the CPUs of the cell that it heard, though a later cell may deny
-unfoldable pub stopsHeard : Manager
-stopsHeard (Call cpu code a1 a2) bytes m = step (Call cpu code a1 a2) bytes m
-stopsHeard (Store cpu word value) bytes m = step (Store cpu word value) bytes m
-stopsHeard (Fault cpu) bytes m = step (Fault cpu) bytes m
-stopsHeard (Exit cpu kind) bytes m = step (Exit cpu kind) bytes m
-stopsHeard Poll bytes m =
+unfoldable pub stops_heard : Manager
+stops_heard (Call cpu code a1 a2) bytes m = step (Call cpu code a1 a2) bytes m
+stops_heard (Store cpu word value) bytes m = step (Store cpu word value) bytes m
+stops_heard (Fault cpu) bytes m = step (Fault cpu) bytes m
+stops_heard (Exit cpu kind) bytes m = step (Exit cpu kind) bytes m
+stops_heard Poll bytes m =
     let s = step Poll bytes m in
-    elim (leftWaiting s) [ true ↦ answered s.answer (cpusChanged (cell_at m 1).cpus stopCpu s.machine) | false ↦ s ]
-stopsHeard Malformed bytes m = step Malformed bytes m
+    elim (left_waiting s) [ true ↦ answered s.answer (cpus_changed (cell_at m 1).cpus stop_cpu s.machine) | false ↦ s ]
+stops_heard Malformed bytes m = step Malformed bytes m
 
 -- the poll that refuses cuts off another cell, too
-unfoldable pub cutsOffAnother : Manager
-cutsOffAnother (Call cpu code a1 a2) bytes m = step (Call cpu code a1 a2) bytes m
-cutsOffAnother (Store cpu word value) bytes m = step (Store cpu word value) bytes m
-cutsOffAnother (Fault cpu) bytes m = step (Fault cpu) bytes m
-cutsOffAnother (Exit cpu kind) bytes m = step (Exit cpu kind) bytes m
-cutsOffAnother Poll bytes m =
-    let s = step Poll bytes m in elim (refusedCall s) [ true ↦ answered s.answer (cellCutOff 2 s.machine) | false ↦ s ]
-cutsOffAnother Malformed bytes m = step Malformed bytes m
+unfoldable pub cuts_off_another : Manager
+cuts_off_another (Call cpu code a1 a2) bytes m = step (Call cpu code a1 a2) bytes m
+cuts_off_another (Store cpu word value) bytes m = step (Store cpu word value) bytes m
+cuts_off_another (Fault cpu) bytes m = step (Fault cpu) bytes m
+cuts_off_another (Exit cpu kind) bytes m = step (Exit cpu kind) bytes m
+cuts_off_another Poll bytes m =
+    let s = step Poll bytes m in elim (refused_call s) [ true ↦ answered s.answer (cell_cut_off 2 s.machine) | false ↦ s ]
+cuts_off_another Malformed bytes m = step Malformed bytes m
 
 -- nothing is done, and the answer is 0 always
-unfoldable pub doesNothing : Manager
-doesNothing e bytes m = answered (Code (pos 0)) m
+unfoldable pub does_nothing : Manager
+does_nothing e bytes m = answered (Code (pos 0)) m
 
 -- all is done, but the answer is 0 always
-unfoldable pub answersZero : Manager
-answersZero e bytes m = answered (Code (pos 0)) (step e bytes m).machine
+unfoldable pub answers_zero : Manager
+answers_zero e bytes m = answered (Code (pos 0)) (step e bytes m).machine
 
 -- everything is refused
-unfoldable pub refusesAll : Manager
-refusesAll e bytes m = answered (Code EPERM) m
+unfoldable pub refuses_all : Manager
+refuses_all e bytes m = answered (Code EPERM) m

@@ -5,8 +5,8 @@
 // use; a count past its places means all of them.
 ghost use Rattle.std.specs.Prelude.{◌≡◌, min, take, drop};
 ghost use Rattle.base.specs.Lists.{all, any, pairwise};
-ghost use Rattle.regions.specs.Regions.{regionOf, noRegion, comm, apart, insidePhys};
-ghost use Rattle.region_table.specs.Tables.{regionsOf};
+ghost use Rattle.regions.specs.Regions.{region_of, no_region, comm, apart, inside_phys};
+ghost use Rattle.region_table.specs.Tables.{regions_of};
 
 use regions::MemRegion;
 
@@ -17,7 +17,7 @@ pub const MAX_BOOT_REGIONS: usize = 16;
 
 // What stands in a place that is not used.
 pub fn no_region() -> MemRegion
-    ensures { result ≡ noRegion }
+    ensures { result ≡ no_region }
 {
     MemRegion {
         phys: 0,
@@ -29,7 +29,7 @@ pub fn no_region() -> MemRegion
 
 // The region that begins at an offset, on the part of the record from there on.
 pub fn region_at(s: &[u8], at: usize) -> MemRegion
-    ensures { result ≡ regionOf (drop at s.now) }
+    ensures { result ≡ region_of (drop at s.now) }
 {
     if at <= s.len() {
         regions::region_of(&s[at..])
@@ -61,7 +61,7 @@ pub fn has_comm(table: [MemRegion; MAX_REGIONS], count: usize) -> bool
 
 // Whether a region lies physically inside a single region of the system's table.
 pub fn inside_one(r: MemRegion, table: [MemRegion; MAX_BOOT_REGIONS], count: usize) -> bool
-    ensures { result ≡ any (insidePhys r) (take count table) }
+    ensures { result ≡ any (inside_phys r) (take count table) }
 {
     let n = used(count, MAX_BOOT_REGIONS);
     let mut found = false;
@@ -75,7 +75,7 @@ pub fn inside_one(r: MemRegion, table: [MemRegion; MAX_BOOT_REGIONS], count: usi
 
 // Whether the first `n` regions of a record, from byte `base` on, may each stand in it with `r`.
 pub fn apart_from(s: &[u8], base: u16, n: u16, r: MemRegion) -> bool
-    ensures { result ≡ all (λ x. apart x r) (regionsOf base n s.now) }
+    ensures { result ≡ all (λ x. apart x r) (regions_of base n s.now) }
 {
     let mut ok = true;
     let mut i = 0u16;
@@ -88,7 +88,7 @@ pub fn apart_from(s: &[u8], base: u16, n: u16, r: MemRegion) -> bool
 
 // Whether every two of the first `n` regions of a record, from byte `base` on, may stand in it.
 pub fn all_apart(s: &[u8], base: u16, n: u16) -> bool
-    ensures { result ≡ pairwise apart (regionsOf base n s.now) }
+    ensures { result ≡ pairwise apart (regions_of base n s.now) }
 {
     let mut ok = true;
     let mut i = 0u16;

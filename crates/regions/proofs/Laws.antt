@@ -8,8 +8,8 @@ use borrow.Author.Tests.{lt-leb, le-leb}
 use lib.Dec.{leb, ltb}
 use lib.ListN.{length, drop, drop_of_length-le}
 use Rattle.base.proofs.Tests.{both-leb, equal-leb}
-use Rattle.fields.specs.Fields.{field, littleEndian}
-use Rattle.regions.specs.Regions.{overlap, inside, regionOf, noRegion}
+use Rattle.fields.specs.Fields.{field, little_endian}
+use Rattle.regions.specs.Regions.{overlap, inside, region_of, no_region}
 
 pub overlap-up : (a n b m : ℕ) → a ≤ b → (ltb (b - a) n && ltb 0 m) ≡ overlap a n b m
 unfolding overlap
@@ -41,6 +41,6 @@ pub ends-past : (start size limit : ℕ) → limit < size → false ≡ leb (sta
 ends-past start size limit h = sym (lt-leb (start + size) limit (omega arith))
 
 -- past the record's end there are no bytes, and a region of none is all zeros
-pub past-region : (at : ℕ) (bs : List ℕ) → length bs ≤ at → noRegion ≡ regionOf (drop at bs)
-unfolding regionOf noRegion field littleEndian
+pub past-region : (at : ℕ) (bs : List ℕ) → length bs ≤ at → no_region ≡ region_of (drop at bs)
+unfolding region_of no_region field little_endian
 past-region at bs h = rw (drop_of_length-le bs h)

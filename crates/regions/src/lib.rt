@@ -1,7 +1,7 @@
 // Memory regions: reading one from its 32 bytes, and the rules on one and on two.
 ghost use Rattle.std.specs.Prelude.{◌≡◌, ◌+◌, ◌^◌, leb};
-ghost use Rattle.regions.specs.Regions.{regionOf, wholePages, placed, executable, comm, loadable, shared, sharedAndExecutable, flagsOk, commOk};
-ghost use Rattle.regions.specs.Regions.{overlap as overlap-of, inside as inside_of, apart as Apart-of, clearOf, insidePhys};
+ghost use Rattle.regions.specs.Regions.{region_of, whole_pages, placed, executable, comm, loadable, shared, shared_and_executable, flags_ok, comm_ok};
+ghost use Rattle.regions.specs.Regions.{overlap as overlap_of, inside as inside_of, apart as Apart-of, clear_of, inside_phys};
 
 // The flags of a region, by their values, and those of a communication region, read, write and comm.
 pub const MEM_READ: u64 = 1;
@@ -32,7 +32,7 @@ pub struct MemRegion {
 
 // The region in the first 32 bytes.
 pub fn region_of(s: &[u8]) -> MemRegion
-    ensures { result ≡ regionOf s.now }
+    ensures { result ≡ region_of s.now }
 {
     let phys = fields::u64_at(s, 0);
     let virt = fields::u64_at(s, 8);
@@ -59,7 +59,7 @@ fn ends_by_limit(start: u64, size: u64) -> bool
 
 // Whether a range is whole pages, at least one, and ends by 2^48.
 pub fn whole_pages(start: u64, size: u64) -> bool
-    ensures { result ≡ wholePages start size }
+    ensures { result ≡ whole_pages start size }
 {
     (start % PAGE_SIZE == 0)
         & (size % PAGE_SIZE == 0)
@@ -104,28 +104,28 @@ pub fn is_shared(r: MemRegion) -> bool
 
 // Whether several cells may have it and its cell may run what stands in it.
 pub fn is_shared_and_executable(r: MemRegion) -> bool
-    ensures { result ≡ sharedAndExecutable r }
+    ensures { result ≡ shared_and_executable r }
 {
     is_shared(r) & is_executable(r)
 }
 
 // Whether the flags are allowed together.
 pub fn flags_ok(r: MemRegion) -> bool
-    ensures { result ≡ flagsOk r }
+    ensures { result ≡ flags_ok r }
 {
     (r.flags < 64) & (r.flags / MEM_READ % 2 == 1) & !(is_loadable(r) & is_shared(r))
 }
 
 // Whether a communication region has the only form allowed.
 pub fn comm_ok(r: MemRegion) -> bool
-    ensures { result ≡ commOk r }
+    ensures { result ≡ comm_ok r }
 {
     !is_comm(r) | (r.flags == COMM_REGION_FLAGS) & (r.phys == 0) & (r.size == PAGE_SIZE)
 }
 
 // Whether two ranges have a common byte. No sum can wrap.
 pub fn overlap(a: u64, n: u64, b: u64, m: u64) -> bool
-    ensures { result ≡ overlap-of a n b m }
+    ensures { result ≡ overlap_of a n b m }
 {
     if a <= b {
         (b - a < n) & (0 < m)
@@ -160,14 +160,14 @@ pub fn apart(r: MemRegion, s: MemRegion) -> bool
 
 // Whether a region keeps off hypervisor memory.
 pub fn clear_of(start: u64, size: u64, r: MemRegion) -> bool
-    ensures { result ≡ clearOf start size r }
+    ensures { result ≡ clear_of start size r }
 {
     is_comm(r) | !overlap(r.phys, r.size, start, size)
 }
 
 // Whether a region lies physically inside another.
 pub fn inside_phys(r: MemRegion, b: MemRegion) -> bool
-    ensures { result ≡ insidePhys r b }
+    ensures { result ≡ inside_phys r b }
 {
     inside(r.phys, r.size, b.phys, b.size)
 }

@@ -13,12 +13,12 @@ use lib.ListN.{length, take, drop, drop_of_length-le, length-take, length-drop, 
 use lib.Seq.{take_all, take-length, take-append-add, length-take-le, take_at, drop_at, drop-append-add, drop-drop}
 use borrow.Author.Tests.{le-ltb, ltb-true, leb-true}
 use Rattle.base.proofs.Tests.{le-or-lt, holds, is_true, and_left, and_right}
-use Rattle.lines.specs.Lines.{maxRecord, lineRecord}
+use Rattle.lines.specs.Lines.{max_record, line_record}
 use Rattle.lines.proofs.Laws.{record-short}
 use Rattle.machine_state.specs.declared.Answer.{Answer}
-use Rattle.texts.specs.Texts.{answerLine, putLine, putCount}
+use Rattle.texts.specs.Texts.{answer_line, put_line, put_count}
 use Rattle.texts.proofs.Laws.{answer-short}
-use Rattle.replay_log.specs.Feed.{keptBytes}
+use Rattle.replay_log.specs.Feed.{kept_bytes}
 
 -- bytes put behind a line as far as they fit
 take_min : (k : ℕ) (s : List ℕ) → take (min k (length s)) s ≡ take k s
@@ -43,35 +43,35 @@ appended d at n s h e =
     ∙ ap (λ (k : ℕ). take k (take at d ++ s)) (ap (λ (k : ℕ). k + (length d - at)) (length-take-le at d h) ∙ room)
 
 -- a record put to the start of a buffer of as many bytes as the longest has: all of it fits
-module _ (line buffer after : List ℕ) (n : ℕ) (size : length buffer ≡ maxRecord) (isCount : n ≡ min (length (lineRecord line)) (length buffer))
-    (isAfter : after ≡ take n (lineRecord line) ++ drop n buffer) where
-  whole : n ≡ length (lineRecord line)
+module _ (line buffer after : List ℕ) (n : ℕ) (size : length buffer ≡ max_record) (is_count : n ≡ min (length (line_record line)) (length buffer))
+    (is_after : after ≡ take n (line_record line) ++ drop n buffer) where
+  whole : n ≡ length (line_record line)
   whole = let short = record-short line in omega arith
 
   pub record-inside : n ≤ length buffer
   record-inside = let short = record-short line in omega arith
 
-  front : take n (lineRecord line) ≡ lineRecord line
-  front = take_all n (lineRecord line) (let e = whole in omega arith)
+  front : take n (line_record line) ≡ line_record line
+  front = take_all n (line_record line) (let e = whole in omega arith)
 
-  pub record-size : length after ≡ maxRecord
+  pub record-size : length after ≡ max_record
   record-size =
       let e = whole in
       let low = record-inside in
-      ap length (isAfter ∙ ap (λ (r : List ℕ). r ++ drop n buffer) front) ∙ length-append (lineRecord line) (drop n buffer)
-      ∙ sum (length (lineRecord line)) n (length buffer) (length (drop n buffer)) e (length-drop n buffer) low ∙ size
+      ap length (is_after ∙ ap (λ (r : List ℕ). r ++ drop n buffer) front) ∙ length-append (line_record line) (drop n buffer)
+      ∙ sum (length (line_record line)) n (length buffer) (length (drop n buffer)) e (length-drop n buffer) low ∙ size
     where
       sum : (a n size rest : ℕ) → n ≡ a → rest ≡ size - n → n ≤ size → a + rest ≡ size
       sum a n size rest e d h = omega arith
 
-  pub record-read : take n after ≡ lineRecord line
+  pub record-read : take n after ≡ line_record line
   record-read =
-      ap (take n) (isAfter ∙ ap (λ (r : List ℕ). r ++ drop n buffer) front) ∙ take_at (lineRecord line) (drop n buffer) n (sym whole)
+      ap (take n) (is_after ∙ ap (λ (r : List ℕ). r ++ drop n buffer) front) ∙ take_at (line_record line) (drop n buffer) n (sym whole)
 
 -- an answer's line put behind what is written, where there is room for it
 module _ (answer : Answer) (out after : List ℕ) (w n : ℕ) (is_room : 32 ≤ length out - w)
-    (isCount : n ≡ putCount 32 (answerLine answer) (take (length out - w) (drop w out)))
-    (isAfter : after ≡ putLine 32 (answerLine answer) (take (length out - w) (drop w out))) where
+    (is_count : n ≡ put_count 32 (answer_line answer) (take (length out - w) (drop w out)))
+    (is_after : after ≡ put_line 32 (answer_line answer) (take (length out - w) (drop w out))) where
   -- the whole rest of the buffer is lent
   lent : take (length out - w) (drop w out) ≡ drop w out
   lent = take_all (length out - w) (drop w out) (let e = length-drop w out in omega arith)
@@ -79,60 +79,60 @@ module _ (answer : Answer) (out after : List ℕ) (w n : ℕ) (is_room : 32 ≤ 
   enough : ltb (length (drop w out)) 32 ≡ false
   enough = le-ltb (length (drop w out)) 32 (let e = length-drop w out in omega arith)
 
-  pub put_count : n ≡ length (answerLine answer)
-  unfolding putCount
-  put_count = isCount ∙ ap (putCount 32 (answerLine answer)) lent ∙ rw (enough, putCount)
+  pub put_count_lem : n ≡ length (answer_line answer)
+  unfolding put_count
+  put_count_lem = is_count ∙ ap (put_count 32 (answer_line answer)) lent ∙ rw (enough, put_count)
 
-  pub put-after : after ≡ answerLine answer ++ drop (length (answerLine answer)) (drop w out)
-  unfolding putLine
-  put-after = isAfter ∙ ap (putLine 32 (answerLine answer)) lent ∙ rw (enough, putLine)
+  pub put-after : after ≡ answer_line answer ++ drop (length (answer_line answer)) (drop w out)
+  unfolding put_line
+  put-after = is_after ∙ ap (put_line 32 (answer_line answer)) lent ∙ rw (enough, put_line)
 
   -- the buffer after the loan
-  module _ (out' : List ℕ) (isBack : out' ≡ take w out ++ (after ++ drop (length out - w) (drop w out))) where
+  module _ (out' : List ℕ) (is_back : out' ≡ take w out ++ (after ++ drop (length out - w) (drop w out))) where
     rest : List ℕ
-    rest = drop (length (answerLine answer)) (drop w out)
+    rest = drop (length (answer_line answer)) (drop w out)
 
-    back : out' ≡ take w out ++ (answerLine answer ++ rest)
+    back : out' ≡ take w out ++ (answer_line answer ++ rest)
     unfolding rest
     back =
         let all : length (drop w out) ≤ length out - w = (let e = length-drop w out in omega arith) in
-        isBack ∙ ap (λ (r : List ℕ). take w out ++ (after ++ r)) (drop_of_length-le (drop w out) all)
+        is_back ∙ ap (λ (r : List ℕ). take w out ++ (after ++ r)) (drop_of_length-le (drop w out) all)
         ∙ ap (λ (r : List ℕ). take w out ++ r) (append-nil after ∙ put-after)
 
     pub put-inside : w + n ≤ length out
     put-inside =
-        let e = put_count in
+        let e = put_count_lem in
         let h = answer-short answer in
         omega arith
 
     low : w ≤ length out
     low = let e = put-inside in omega arith
 
-    pub put-text : take (w + n) out' ≡ take w out ++ answerLine answer
+    pub put-text : take (w + n) out' ≡ take w out ++ answer_line answer
     put-text =
-        ap (take (w + n)) back ∙ ap (λ (k : ℕ). take (k + n) (take w out ++ (answerLine answer ++ rest))) (sym (length-take-le w out low))
-        ∙ take-append-add (take w out) (answerLine answer ++ rest) n
-        ∙ ap (λ (r : List ℕ). take w out ++ r) (take_at (answerLine answer) rest n (sym put_count))
+        ap (take (w + n)) back ∙ ap (λ (k : ℕ). take (k + n) (take w out ++ (answer_line answer ++ rest))) (sym (length-take-le w out low))
+        ∙ take-append-add (take w out) (answer_line answer ++ rest) n
+        ∙ ap (λ (r : List ℕ). take w out ++ r) (take_at (answer_line answer) rest n (sym put_count_lem))
 
     pub put_rest : drop (w + n) out' ≡ drop (w + n) out
     unfolding rest
     put_rest =
-        ap (drop (w + n)) back ∙ ap (λ (k : ℕ). drop (k + n) (take w out ++ (answerLine answer ++ rest))) (sym (length-take-le w out low))
-        ∙ drop-append-add (take w out) (answerLine answer ++ rest) n ∙ drop_at (answerLine answer) rest n (sym put_count)
-        ∙ drop-drop (length (answerLine answer)) w out ∙ ap (λ (k : ℕ). drop (w + k) out) (sym put_count)
+        ap (drop (w + n)) back ∙ ap (λ (k : ℕ). drop (k + n) (take w out ++ (answer_line answer ++ rest))) (sym (length-take-le w out low))
+        ∙ drop-append-add (take w out) (answer_line answer ++ rest) n ∙ drop_at (answer_line answer) rest n (sym put_count_lem)
+        ∙ drop-drop (length (answer_line answer)) w out ∙ ap (λ (k : ℕ). drop (w + k) out) (sym put_count_lem)
 
     pub put-size : length out' ≡ length out
     unfolding rest
     put-size =
-        let sum = length-append (take w out) (answerLine answer ++ rest) in
-        let inner = length-append (answerLine answer) rest in
+        let sum = length-append (take w out) (answer_line answer ++ rest) in
+        let inner = length-append (answer_line answer) rest in
         let first = length-take-le w out low in
-        let last = length-drop (length (answerLine answer)) (drop w out) in
+        let last = length-drop (length (answer_line answer)) (drop w out) in
         let before = length-drop w out in
         let inside = put-inside in
-        let count = put_count in
+        let count = put_count_lem in
         ap length back ∙ sum
-        ∙ sizes (length (take w out)) (length (answerLine answer ++ rest)) (length (answerLine answer)) (length rest) (length (drop w out)) (length out) n first inner last before inside count
+        ∙ sizes (length (take w out)) (length (answer_line answer ++ rest)) (length (answer_line answer)) (length rest) (length (drop w out)) (length out) n first inner last before inside count
       where
         sizes : (a b c d f total n : ℕ) → a ≡ w → b ≡ c + d → d ≡ f - c → f ≡ total - w → w + n ≤ total → n ≡ c → a + b ≡ total
         sizes a b c d f total n ea eb ed ef h en = omega arith
@@ -146,11 +146,11 @@ may-go at given w room r e t =
     )
 
 -- the first bytes of a line, where the count was cut to what is kept
-pub kept-bytes : (line : List ℕ) (len n : ℕ) → length line ≡ keptBytes → n ≡ min len keptBytes → take n line ≡ take len line
+pub kept-bytes : (line : List ℕ) (len n : ℕ) → length line ≡ kept_bytes → n ≡ min len kept_bytes → take n line ≡ take len line
 kept-bytes line len n size e = ap (λ (k : ℕ). take k line) (e ∙ ap (min len) (sym size)) ∙ take_min len line
 
 -- what is kept of a line is short
-pub begun-short : (line : List ℕ) (len : ℕ) → len ≤ keptBytes → length (take len line) ≤ keptBytes
+pub begun-short : (line : List ℕ) (len : ℕ) → len ≤ kept_bytes → length (take len line) ≤ kept_bytes
 begun-short line len h = let e = length-take len line in omega arith
 
 -- a line that ends leaves its line feed behind
@@ -169,10 +169,10 @@ pub drop-further : (out out₀ : List ℕ) (w n : ℕ) → drop w out ≡ drop w
 drop-further out out₀ w n e = sym (drop-drop n w out) ∙ ap (drop n) e ∙ drop-drop n w out₀
 
 -- nothing put is nothing changed
-pub put-none : (out : List ℕ) → (0 ≡ putCount 32 [] out) × (out ≡ putLine 32 [] out)
-unfolding putCount putLine
+pub put-none : (out : List ℕ) → (0 ≡ put_count 32 [] out) × (out ≡ put_line 32 [] out)
+unfolding put_count put_line
 put-none out = by-room (ltb (length out) 32) refl
   where
-    by-room : (t : Bool) → ltb (length out) 32 ≡ t → (0 ≡ putCount 32 [] out) × (out ≡ putLine 32 [] out)
-    by-room true e = (rw (e, putCount), rw (e, putLine))
-    by-room false e = (rw (e, putCount), rw (e, putLine))
+    by-room : (t : Bool) → ltb (length out) 32 ≡ t → (0 ≡ put_count 32 [] out) × (out ≡ put_line 32 [] out)
+    by-room true e = (rw (e, put_count), rw (e, put_line))
+    by-room false e = (rw (e, put_count), rw (e, put_line))

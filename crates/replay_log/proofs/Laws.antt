@@ -16,36 +16,36 @@ use borrow.Author.Tests.{eq-eqb, ne_eqb}
 use Rattle.machine_state.specs.declared.Event.{Event}
 use Rattle.machine_state.specs.declared.Machine.{Machine}
 use Rattle.machine_state.specs.declared.Stepped.{Stepped}
-use Rattle.machine_state.specs.Machine.{bootOf}
+use Rattle.machine_state.specs.Machine.{boot_of}
 use Rattle.rules.specs.State.{answered}
 use Rattle.rules.specs.Step.{step}
-use Rattle.lines.specs.Lines.{lineEvent, lineRecord}
+use Rattle.lines.specs.Lines.{line_event, line_record}
 use Rattle.lines.proofs.Laws.{event-cut, record-cut}
 use Rattle.machine_state.specs.declared.Answer.{Answer}
-use Rattle.texts.specs.Texts.{answerLine, bootLine}
+use Rattle.texts.specs.Texts.{answer_line, boot_line}
 use Rattle.texts.proofs.Laws.{answer-short}
-use Rattle.replay_log.specs.Replay.{lineFeed, lastLine, lines_from, lines_of, stepLine, answersTo, unlessNegative, replayText}
-use Rattle.replay_log.specs.Feed.{Going, ended, longer, feedByte, feed, end_of, textAtEnd, lineLength, keptBytes}
+use Rattle.replay_log.specs.Replay.{line_feed, last_line, lines_from, lines_of, step_line, answers_to, unless_negative, replay_text}
+use Rattle.replay_log.specs.Feed.{Going, ended, longer, feed_byte, feed, end_of, text_at_end, line_length, kept_bytes}
 
 -- one turn of the search for a line feed, and its two ends
 module _ (log : List ℕ) (i : ℕ) where
-  pub length_more : i < length log → (get_or log i 0 ≡ lineFeed → ⊥) → i + lineLength (drop i log) ≡ (i + 1) + lineLength (drop (i + 1) log)
-  unfolding lineLength
-  length_more h n = rw (add-one, drop-cons log i 0, ne_eqb (get_or log i 0) lineFeed n, lineLength) (omega arith)
+  pub length_more : i < length log → (get_or log i 0 ≡ line_feed → ⊥) → i + line_length (drop i log) ≡ (i + 1) + line_length (drop (i + 1) log)
+  unfolding line_length
+  length_more h n = rw (add-one, drop-cons log i 0, ne_eqb (get_or log i 0) line_feed n, line_length) (omega arith)
 
-  pub length-stop : i < length log → get_or log i 0 ≡ lineFeed → i ≡ i + lineLength (drop i log)
-  unfolding lineLength
-  length-stop h e = rw (drop-cons log i 0, eq-eqb (get_or log i 0) lineFeed e, lineLength) (omega arith)
+  pub length-stop : i < length log → get_or log i 0 ≡ line_feed → i ≡ i + line_length (drop i log)
+  unfolding line_length
+  length-stop h e = rw (drop-cons log i 0, eq-eqb (get_or log i 0) line_feed e, line_length) (omega arith)
 
-  pub length-end : length log ≤ i → i ≡ i + lineLength (drop i log)
-  unfolding lineLength
+  pub length-end : length log ≤ i → i ≡ i + line_length (drop i log)
+  unfolding line_length
   length-end h = rw (drop_of_length-le log h) (omega arith)
 
 -- two pieces are fed one after the other
 pub feed-append : (xs ys : List ℕ) (g : Going) → feed (xs ++ ys) g ≡ feed ys (feed xs g)
 unfolding feed
 feed-append [] ys g = refl
-feed-append (x ∷ xs) ys g = feed-append xs ys (feedByte x g)
+feed-append (x ∷ xs) ys g = feed-append xs ys (feed_byte x g)
 
 -- of bytes that are cut twice the second cut decides
 cut_twice : (k : ℕ) (xs ys : List ℕ) → take k (take k xs ++ ys) ≡ take k (xs ++ ys)
@@ -55,146 +55,146 @@ cut_twice (suc k) (x ∷ xs) ys = ap (λ (r : List ℕ). x ∷ r) (cut_twice k x
 
 -- one byte, by whether it is a line feed
 module _ (b : ℕ) (bs : List ℕ) where
-  length-feed : eqb b lineFeed ≡ true → lineLength (b ∷ bs) ≡ 0
-  unfolding lineLength
-  length-feed q = rw (q, lineLength)
+  length-feed : eqb b line_feed ≡ true → line_length (b ∷ bs) ≡ 0
+  unfolding line_length
+  length-feed q = rw (q, line_length)
 
-  length-other : eqb b lineFeed ≡ false → lineLength (b ∷ bs) ≡ suc (lineLength bs)
-  unfolding lineLength
-  length-other q = rw (q, lineLength)
+  length-other : eqb b line_feed ≡ false → line_length (b ∷ bs) ≡ suc (line_length bs)
+  unfolding line_length
+  length-other q = rw (q, line_length)
 
-pub byte-feed : (b : ℕ) (g : Going) → eqb b lineFeed ≡ true → feedByte b g ≡ ended g
-unfolding feedByte
-byte-feed b g q = rw (q, feedByte)
+pub byte-feed : (b : ℕ) (g : Going) → eqb b line_feed ≡ true → feed_byte b g ≡ ended g
+unfolding feed_byte
+byte-feed b g q = rw (q, feed_byte)
 
-pub byte-other : (b : ℕ) (g : Going) → eqb b lineFeed ≡ false → feedByte b g ≡ longer (b ∷ []) g
-unfolding feedByte
-byte-other b g q = rw (q, feedByte)
+pub byte-other : (b : ℕ) (g : Going) → eqb b line_feed ≡ false → feed_byte b g ≡ longer (b ∷ []) g
+unfolding feed_byte
+byte-other b g q = rw (q, feed_byte)
 
 -- a line made longer twice
 pub longer-twice : (bs cs : List ℕ) (g : Going) → longer cs (longer bs g) ≡ longer (bs ++ cs) g
 unfolding longer
 longer-twice bs cs g = λ i. record {
   machine = g.machine;
-  begun = (cut_twice keptBytes (g.begun ++ bs) cs ∙ ap (take keptBytes) (append_assoc g.begun bs cs)) i;
+  begun = (cut_twice kept_bytes (g.begun ++ bs) cs ∙ ap (take kept_bytes) (append_assoc g.begun bs cs)) i;
   text = g.text;
 }
 
-pub longer-fits : (bs : List ℕ) (g : Going) → length (longer bs g).begun ≤ keptBytes
+pub longer-fits : (bs : List ℕ) (g : Going) → length (longer bs g).begun ≤ kept_bytes
 unfolding longer
-longer-fits bs g = let n = length-take keptBytes (g.begun ++ bs) in omega arith
+longer-fits bs g = let n = length-take kept_bytes (g.begun ++ bs) in omega arith
 
 -- bytes without a line feed make the line longer
-pub feed-plain : (bs : List ℕ) (g : Going) → length g.begun ≤ keptBytes → lineLength bs ≡ length bs → feed bs g ≡ longer bs g
+pub feed-plain : (bs : List ℕ) (g : Going) → length g.begun ≤ kept_bytes → line_length bs ≡ length bs → feed bs g ≡ longer bs g
 unfolding feed longer
 feed-plain [] g h e = λ i. record {
   machine = g.machine;
-  begun = sym (ap (take keptBytes) (append-nil g.begun) ∙ take_all keptBytes g.begun h) i;
+  begun = sym (ap (take kept_bytes) (append-nil g.begun) ∙ take_all kept_bytes g.begun h) i;
   text = g.text;
 }
-feed-plain (b ∷ bs) g h e = by-test (eqb b lineFeed) refl (feed-plain bs (longer (b ∷ []) g) (longer-fits (b ∷ []) g))
+feed-plain (b ∷ bs) g h e = by-test (eqb b line_feed) refl (feed-plain bs (longer (b ∷ []) g) (longer-fits (b ∷ []) g))
   where
-    by-test : (t : Bool) → eqb b lineFeed ≡ t → (lineLength bs ≡ length bs → feed bs (longer (b ∷ []) g) ≡ longer bs (longer (b ∷ []) g))
-        → feed bs (feedByte b g) ≡ longer (b ∷ bs) g
+    by-test : (t : Bool) → eqb b line_feed ≡ t → (line_length bs ≡ length bs → feed bs (longer (b ∷ []) g) ≡ longer bs (longer (b ∷ []) g))
+        → feed bs (feed_byte b g) ≡ longer (b ∷ bs) g
     by-test true q again = let none = sym (length-feed b bs q) ∙ e in absurd (omega arith)
     by-test false q again =
         let rest = sym (length-other b bs q) ∙ e in
         ap (feed bs) (byte-other b g q) ∙ again (omega arith) ∙ longer-twice (b ∷ []) bs g
 
 -- the bytes before the first line feed have none, and it stands behind them
-pub before-feed : (log : List ℕ) → lineLength (take (lineLength log) log) ≡ length (take (lineLength log) log)
-unfolding lineLength
+pub before-feed : (log : List ℕ) → line_length (take (line_length log) log) ≡ length (take (line_length log) log)
+unfolding line_length
 before-feed [] = refl
-before-feed (b ∷ bs) = by-test (eqb b lineFeed) refl (before-feed bs)
+before-feed (b ∷ bs) = by-test (eqb b line_feed) refl (before-feed bs)
   where
-    by-test : (t : Bool) → eqb b lineFeed ≡ t → lineLength (take (lineLength bs) bs) ≡ length (take (lineLength bs) bs)
-        → lineLength (take (lineLength (b ∷ bs)) (b ∷ bs)) ≡ length (take (lineLength (b ∷ bs)) (b ∷ bs))
-    by-test true q h = ap (λ (n : ℕ). lineLength (take n (b ∷ bs))) (length-feed b bs q) ∙ sym (ap (λ (n : ℕ). length (take n (b ∷ bs))) (length-feed b bs q))
+    by-test : (t : Bool) → eqb b line_feed ≡ t → line_length (take (line_length bs) bs) ≡ length (take (line_length bs) bs)
+        → line_length (take (line_length (b ∷ bs)) (b ∷ bs)) ≡ length (take (line_length (b ∷ bs)) (b ∷ bs))
+    by-test true q h = ap (λ (n : ℕ). line_length (take n (b ∷ bs))) (length-feed b bs q) ∙ sym (ap (λ (n : ℕ). length (take n (b ∷ bs))) (length-feed b bs q))
     by-test false q h =
-        ap (λ (n : ℕ). lineLength (take n (b ∷ bs))) (length-other b bs q) ∙ length-other b (take (lineLength bs) bs) q ∙ ap suc h
+        ap (λ (n : ℕ). line_length (take n (b ∷ bs))) (length-other b bs q) ∙ length-other b (take (line_length bs) bs) q ∙ ap suc h
         ∙ sym (ap (λ (n : ℕ). length (take n (b ∷ bs))) (length-other b bs q))
 
-pub at-feed : (log : List ℕ) → lineLength log < length log → eqb (get_or log (lineLength log) 0) lineFeed ≡ true
+pub at-feed : (log : List ℕ) → line_length log < length log → eqb (get_or log (line_length log) 0) line_feed ≡ true
 at-feed [] h = absurd (omega arith)
-at-feed (b ∷ bs) h = by-test (eqb b lineFeed) refl (at-feed bs)
+at-feed (b ∷ bs) h = by-test (eqb b line_feed) refl (at-feed bs)
   where
-    by-test : (t : Bool) → eqb b lineFeed ≡ t → (lineLength bs < length bs → eqb (get_or bs (lineLength bs) 0) lineFeed ≡ true)
-        → eqb (get_or (b ∷ bs) (lineLength (b ∷ bs)) 0) lineFeed ≡ true
-    by-test true q again = ap (λ (n : ℕ). eqb (get_or (b ∷ bs) n 0) lineFeed) (length-feed b bs q) ∙ q
+    by-test : (t : Bool) → eqb b line_feed ≡ t → (line_length bs < length bs → eqb (get_or bs (line_length bs) 0) line_feed ≡ true)
+        → eqb (get_or (b ∷ bs) (line_length (b ∷ bs)) 0) line_feed ≡ true
+    by-test true q again = ap (λ (n : ℕ). eqb (get_or (b ∷ bs) n 0) line_feed) (length-feed b bs q) ∙ q
     by-test false q again =
         let e = length-other b bs q in
-        ap (λ (n : ℕ). eqb (get_or (b ∷ bs) n 0) lineFeed) e ∙ again (omega arith)
+        ap (λ (n : ℕ). eqb (get_or (b ∷ bs) n 0) line_feed) e ∙ again (omega arith)
 
 -- a turn of the run: the line that is begun goes on from `at` to `end`
-module _ (log : List ℕ) (at end : ℕ) (start g : Going) (fed : feed (take at log) start ≡ g) (short : length g.begun ≤ keptBytes)
-    (isEnd : end ≡ at + lineLength (drop at log)) where
+module _ (log : List ℕ) (at end : ℕ) (start g : Going) (fed : feed (take at log) start ≡ g) (short : length g.begun ≤ kept_bytes)
+    (is_end : end ≡ at + line_length (drop at log)) where
   -- to the end of the piece
   pub turn-open : feed (take end log) start ≡ longer (take (end - at) (drop at log)) g
   turn-open =
-      let size : end - at ≡ lineLength (drop at log) = omega arith in
-      ap (λ (n : ℕ). feed (take n log) start) isEnd ∙ ap (λ (l : List ℕ). feed l start) (take-add at (lineLength (drop at log)) log)
-      ∙ feed-append (take at log) (take (lineLength (drop at log)) (drop at log)) start
-      ∙ ap (feed (take (lineLength (drop at log)) (drop at log))) fed
-      ∙ feed-plain (take (lineLength (drop at log)) (drop at log)) g short (before-feed (drop at log))
+      let size : end - at ≡ line_length (drop at log) = omega arith in
+      ap (λ (n : ℕ). feed (take n log) start) is_end ∙ ap (λ (l : List ℕ). feed l start) (take-add at (line_length (drop at log)) log)
+      ∙ feed-append (take at log) (take (line_length (drop at log)) (drop at log)) start
+      ∙ ap (feed (take (line_length (drop at log)) (drop at log))) fed
+      ∙ feed-plain (take (line_length (drop at log)) (drop at log)) g short (before-feed (drop at log))
       ∙ ap (λ (n : ℕ). longer (take n (drop at log)) g) (sym size)
 
   -- to a line feed
   pub turn-ended : end < length log → feed (take (end + 1) log) start ≡ ended (longer (take (end - at) (drop at log)) g)
   unfolding feed
   turn-ended h =
-      let inside : lineLength (drop at log) < length (drop at log) = (let n = length-drop at log in omega arith) in
-      let here : eqb (get_or log end 0) lineFeed ≡ true =
-      ap (λ (n : ℕ). eqb (get_or log n 0) lineFeed) isEnd ∙ ap (λ (x : ℕ). eqb x lineFeed) (sym (get_or-drop at log (lineLength (drop at log)) 0))
+      let inside : line_length (drop at log) < length (drop at log) = (let n = length-drop at log in omega arith) in
+      let here : eqb (get_or log end 0) line_feed ≡ true =
+      ap (λ (n : ℕ). eqb (get_or log n 0) line_feed) is_end ∙ ap (λ (x : ℕ). eqb x line_feed) (sym (get_or-drop at log (line_length (drop at log)) 0))
       ∙ at-feed (drop at log) inside in
       ap (λ (n : ℕ). feed (take n log) start) (add-one end) ∙ ap (λ (l : List ℕ). feed l start) (take-suc log end 0 h)
-      ∙ feed-append (take end log) (get_or log end 0 ∷ []) start ∙ ap (feedByte (get_or log end 0)) turn-open
+      ∙ feed-append (take end log) (get_or log end 0 ∷ []) start ∙ ap (feed_byte (get_or log end 0)) turn-open
       ∙ byte-feed (get_or log end 0) (longer (take (end - at) (drop at log)) g) here
 
 -- a line that is cut answers as the whole
-line-cut : (line : List ℕ) (m : Machine) → stepLine (take keptBytes line) m ≡ stepLine line m
-unfolding stepLine
+line-cut : (line : List ℕ) (m : Machine) → step_line (take kept_bytes line) m ≡ step_line line m
+unfolding step_line
 line-cut line m = ap₂ (λ (e : Event) (bytes : List ℕ). step e bytes m) (event-cut line) (record-cut line)
 
-lines-feed : (b : ℕ) (bs begun : List ℕ) → eqb b lineFeed ≡ true → lines_from begun (b ∷ bs) ≡ begun ∷ lines_from [] bs
+lines-feed : (b : ℕ) (bs begun : List ℕ) → eqb b line_feed ≡ true → lines_from begun (b ∷ bs) ≡ begun ∷ lines_from [] bs
 unfolding lines_from
 lines-feed b bs begun q = rw (q, lines_from)
 
-lines_other : (b : ℕ) (bs begun : List ℕ) → eqb b lineFeed ≡ false → lines_from begun (b ∷ bs) ≡ lines_from (begun ++ (b ∷ [])) bs
+lines_other : (b : ℕ) (bs begun : List ℕ) → eqb b line_feed ≡ false → lines_from begun (b ∷ bs) ≡ lines_from (begun ++ (b ∷ [])) bs
 unfolding lines_from
 lines_other b bs begun q = rw (q, lines_from)
 
 -- the text written at the end of a log, from a line that is begun: that of the lines
 text-from : (log begun : List ℕ) (m : Machine) (text : List ℕ)
-    → textAtEnd (feed log (record { machine = m; begun = take keptBytes begun; text = text })) ≡ text ++ answersTo (lines_from begun log) m
-unfolding feed lines_from lastLine answersTo end_of ended longer
+    → text_at_end (feed log (record { machine = m; begun = take kept_bytes begun; text = text })) ≡ text ++ answers_to (lines_from begun log) m
+unfolding feed lines_from last_line answers_to end_of ended longer
 text-from [] [] m text = sym (append-nil text)
 text-from [] (x ∷ xs) m text =
-    ap (λ (s : Stepped). text ++ answerLine s.answer) (line-cut (x ∷ xs) m)
-    ∙ sym (ap (λ (t : List ℕ). text ++ t) (append-nil (answerLine (stepLine (x ∷ xs) m).answer)))
-text-from (b ∷ bs) begun m text = by-test (eqb b lineFeed) refl (text-from bs)
+    ap (λ (s : Stepped). text ++ answer_line s.answer) (line-cut (x ∷ xs) m)
+    ∙ sym (ap (λ (t : List ℕ). text ++ t) (append-nil (answer_line (step_line (x ∷ xs) m).answer)))
+text-from (b ∷ bs) begun m text = by-test (eqb b line_feed) refl (text-from bs)
   where
     g : Going
-    g = record { machine = m; begun = take keptBytes begun; text = text }
+    g = record { machine = m; begun = take kept_bytes begun; text = text }
 
-    by-test : (t : Bool) → eqb b lineFeed ≡ t
+    by-test : (t : Bool) → eqb b line_feed ≡ t
         → ((begun : List ℕ) (m : Machine) (text : List ℕ)
-        → textAtEnd (feed bs (record { machine = m; begun = take keptBytes begun; text = text })) ≡ text ++ answersTo (lines_from begun bs) m)
-        → textAtEnd (feed bs (feedByte b g)) ≡ text ++ answersTo (lines_from begun (b ∷ bs)) m
+        → text_at_end (feed bs (record { machine = m; begun = take kept_bytes begun; text = text })) ≡ text ++ answers_to (lines_from begun bs) m)
+        → text_at_end (feed bs (feed_byte b g)) ≡ text ++ answers_to (lines_from begun (b ∷ bs)) m
     by-test true q again =
-        let s = stepLine begun m in
-        let first = answerLine s.answer in
-        ap (λ (h : Going). textAtEnd (feed bs h)) (byte-feed b g q)
-        ∙ ap (λ (s : Stepped). textAtEnd (feed bs (record { machine = s.machine; begun = []; text = text ++ answerLine s.answer }))) (line-cut begun m)
-        ∙ again [] s.machine (text ++ first) ∙ append_assoc text first (answersTo (lines_from [] bs) s.machine)
-        ∙ ap (λ (ls : List (List ℕ)). text ++ answersTo ls m) (sym (lines-feed b bs begun q))
+        let s = step_line begun m in
+        let first = answer_line s.answer in
+        ap (λ (h : Going). text_at_end (feed bs h)) (byte-feed b g q)
+        ∙ ap (λ (s : Stepped). text_at_end (feed bs (record { machine = s.machine; begun = []; text = text ++ answer_line s.answer }))) (line-cut begun m)
+        ∙ again [] s.machine (text ++ first) ∙ append_assoc text first (answers_to (lines_from [] bs) s.machine)
+        ∙ ap (λ (ls : List (List ℕ)). text ++ answers_to ls m) (sym (lines-feed b bs begun q))
     by-test false q again =
-        ap (λ (h : Going). textAtEnd (feed bs h)) (byte-other b g q)
-        ∙ ap (λ (l : List ℕ). textAtEnd (feed bs (record { machine = m; begun = l; text = text }))) (cut_twice keptBytes begun (b ∷ []))
-        ∙ again (begun ++ (b ∷ [])) m text ∙ ap (λ (ls : List (List ℕ)). text ++ answersTo ls m) (sym (lines_other b bs begun q))
+        ap (λ (h : Going). text_at_end (feed bs h)) (byte-other b g q)
+        ∙ ap (λ (l : List ℕ). text_at_end (feed bs (record { machine = m; begun = l; text = text }))) (cut_twice kept_bytes begun (b ∷ []))
+        ∙ again (begun ++ (b ∷ [])) m text ∙ ap (λ (ls : List (List ℕ)). text ++ answers_to ls m) (sym (lines_other b bs begun q))
 
 -- however a log is cut, the text that a run writes is that of the log's lines
 pub fed-is-replay : (log : List ℕ) (m : Machine)
-    → textAtEnd (feed log (record { machine = m; begun = []; text = [] })) ≡ answersTo (lines_of log) m
+    → text_at_end (feed log (record { machine = m; begun = []; text = [] })) ≡ answers_to (lines_of log) m
 fed-is-replay log m = text-from log [] m []
 
 -- a run's place, in its parts
@@ -203,37 +203,37 @@ going m begun text = record { machine = m; begun = begun; text = text }
 
 -- a turn of the run, on its parts: the bytes up to `end` were put behind those kept
 module _ (log : List ℕ) (at end : ℕ) (start : Going) (m : Machine) (begun text : List ℕ) (fed : feed (take at log) start ≡ going m begun text)
-    (short : length begun ≤ keptBytes) (isEnd : end ≡ at + lineLength (drop at log)) (line : List ℕ)
-    (is_line : line ≡ take keptBytes (begun ++ take (end - at) (drop at log))) where
+    (short : length begun ≤ kept_bytes) (is_end : end ≡ at + line_length (drop at log)) (line : List ℕ)
+    (is_line : line ≡ take kept_bytes (begun ++ take (end - at) (drop at log))) where
   -- the piece ends before the line
   pub goes-open : feed (take end log) start ≡ going m line text
   unfolding longer
-  goes-open = turn-open log at end start (going m begun text) fed short isEnd ∙ ap (λ (l : List ℕ). going m l text) (sym is_line)
+  goes-open = turn-open log at end start (going m begun text) fed short is_end ∙ ap (λ (l : List ℕ). going m l text) (sym is_line)
 
   -- the line ends, and its answer is written
   pub goes-on-ended : end < length log → (answer : Answer) (next : Machine) (text' : List ℕ)
-      → answered answer next ≡ step (lineEvent line) (lineRecord line) m → text' ≡ text ++ answerLine answer
+      → answered answer next ≡ step (line_event line) (line_record line) m → text' ≡ text ++ answer_line answer
       → feed (take (end + 1) log) start ≡ going next [] text'
-  unfolding longer ended stepLine answered
-  goes-on-ended h answer next text' isStep isText =
-      turn-ended log at end start (going m begun text) fed short isEnd h ∙ ap (λ (l : List ℕ). ended (going m l text)) (sym is_line)
-      ∙ ap (λ (s : Stepped). going s.machine [] (text ++ answerLine s.answer)) (sym isStep) ∙ ap (going next []) (sym isText)
+  unfolding longer ended step_line answered
+  goes-on-ended h answer next text' is_step is_text =
+      turn-ended log at end start (going m begun text) fed short is_end h ∙ ap (λ (l : List ℕ). ended (going m l text)) (sym is_line)
+      ∙ ap (λ (s : Stepped). going s.machine [] (text ++ answer_line s.answer)) (sym is_step) ∙ ap (going next []) (sym is_text)
 
 -- the end of a log: no line, or one more
-pub end_none : (m : Machine) (begun : List ℕ) → begun ≡ [] → textAtEnd (going m begun []) ≡ []
+pub end_none : (m : Machine) (begun : List ℕ) → begun ≡ [] → text_at_end (going m begun []) ≡ []
 unfolding end_of
-end_none m begun e = ap (λ (b : List ℕ). textAtEnd (going m b [])) e
+end_none m begun e = ap (λ (b : List ℕ). text_at_end (going m b [])) e
 
-pub text-at-end-short : (m : Machine) (begun : List ℕ) → length (textAtEnd (going m begun [])) ≤ 32
+pub text-at-end-short : (m : Machine) (begun : List ℕ) → length (text_at_end (going m begun [])) ≤ 32
 unfolding end_of ended
 text-at-end-short m [] = omega arith
-text-at-end-short m (b ∷ bs) = answer-short (stepLine (b ∷ bs) m).answer
+text-at-end-short m (b ∷ bs) = answer-short (step_line (b ∷ bs) m).answer
 
 -- the whole output of a replay: boot's line and, unless it is a refusal, what a run over the log writes
 pub replay-is : (system log : List ℕ)
-    → replayText system log
-    ≡ bootLine (bootOf system).code
-    ++ unlessNegative (bootOf system).code (textAtEnd (feed log (record { machine = (bootOf system).machine; begun = []; text = [] })))
-unfolding replayText
+    → replay_text system log
+    ≡ boot_line (boot_of system).code
+    ++ unless_negative (boot_of system).code (text_at_end (feed log (record { machine = (boot_of system).machine; begun = []; text = [] })))
+unfolding replay_text
 replay-is system log =
-    ap (λ (t : List ℕ). bootLine (bootOf system).code ++ unlessNegative (bootOf system).code t) (sym (fed-is-replay log (bootOf system).machine))
+    ap (λ (t : List ℕ). boot_line (boot_of system).code ++ unless_negative (boot_of system).code t) (sym (fed-is-replay log (boot_of system).machine))

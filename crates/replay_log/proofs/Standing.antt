@@ -13,39 +13,39 @@ use Rattle.machine_state.specs.declared.Event.{Event}
 use Rattle.machine_state.specs.declared.Machine.{Machine}
 use Rattle.machine_state.specs.declared.Stepped.{Stepped}
 use Rattle.machine_state.specs.declared.Waiting.{Waiting}
-use Rattle.machine_state.specs.Machine.{maxCells}
-use Rattle.rules.specs.State.{cell_at, withCell, withWaiting}
+use Rattle.machine_state.specs.Machine.{max_cells}
+use Rattle.rules.specs.State.{cell_at, with_cell, with_waiting}
 use Rattle.rules.specs.Step.{step}
 use Rattle.cpu_table.specs.declared.CpuChange.{CpuChange}
 use Rattle.comms.specs.declared.WordsChange.{WordsChange}
-use Rattle.comms.specs.Comms.{wordsAt}
+use Rattle.comms.specs.Comms.{words_at}
 use Rattle.asking.specs.declared.Effect.{Effect}
 use Rattle.live_cells.specs.declared.Found.{Found}
-use Rattle.live_cells.specs.Looks.{toLookAt, Looking}
+use Rattle.live_cells.specs.Looks.{to_look_at, Looking}
 use Rattle.effects.specs.declared.CellChange.{CellChange}
 use Rattle.effects.specs.declared.CellChange.TheVariants as CellChange
-use Rattle.effects.specs.Parts.{changedCell}
+use Rattle.effects.specs.Parts.{changed_cell}
 use Rattle.effects.specs.Applying.{remaining}
-use Rattle.lines.specs.Lines.{maxRecord}
-use Rattle.texts.specs.Texts.{answerLine}
+use Rattle.lines.specs.Lines.{max_record}
+use Rattle.texts.specs.Texts.{answer_line}
 use Rattle.replay_log.specs.declared.Progress.{Progress}
 use Rattle.replay_log.specs.declared.Progress.TheVariants as Progress
-use Rattle.replay_log.specs.Feed.{Going, feed, keptBytes}
-use Rattle.replay_log.specs.Run.{toDecide}
+use Rattle.replay_log.specs.Feed.{Going, feed, kept_bytes}
+use Rattle.replay_log.specs.Run.{to_decide}
 use Rattle.replay_log.proofs.Laws.{going}
 
 -- where a run stands once an event has made its step
 abbrev pub after : Stepped → List ℕ → Going
-after s text = going s.machine [] (text ++ answerLine s.answer)
+after s text = going s.machine [] (text ++ answer_line s.answer)
 
 -- what the run's places and buffers keep
 pub record Places (log out₀ out line buffer : List ℕ) (at len written : ℕ) : Type 0 where
   pub taken : at ≤ length log
   pub inside : written ≤ length out
-  pub outSize : length out ≡ length out₀
-  pub short : len ≤ keptBytes
-  pub lineSize : length line ≡ keptBytes
-  pub bufferSize : length buffer ≡ maxRecord
+  pub out_size : length out ≡ length out₀
+  pub short : len ≤ kept_bytes
+  pub line_size : length line ≡ kept_bytes
+  pub buffer_size : length buffer ≡ max_record
   pub rest : drop written out ≡ drop written out₀
 
 -- a line that was read: its event's step is to come, and these cells are left to look at
@@ -53,24 +53,24 @@ pub record Chosen (log : List ℕ) (start : Going) (m : Machine) (out buffer : L
   pub fed : feed (take at log) start ≡ after (step e (take (n - 0) buffer) m) (take written out)
   pub fits : n ≤ length buffer
   pub room : 32 ≤ length out - written
-  pub looking : Looking (take (n - 0) buffer) m (toLookAt e m.live_ids) seen left
+  pub looking : Looking (take (n - 0) buffer) m (to_look_at e m.live_ids) seen left
 
 -- what is left to be applied of a decision
 abbrev pub finished : Machine → CellConfig → ℕ → CpuChange → ℕ → Effect → ℕ → WordsChange → Waiting → Machine
-finished m new cpus how cut e cell words next = withWaiting next (wordsAt cell words (remaining cpus how cut e new m))
+finished m new cpus how cut e cell words next = with_waiting next (words_at cell words (remaining cpus how cut e new m))
 
 pub record Applies (log : List ℕ) (start : Going) (m : Machine) (out buffer : List ℕ) (at written n cpus : ℕ) (how : CpuChange) (cut : ℕ) (e : Effect) (cell : ℕ)
     (words : WordsChange) (next : Waiting) : Type 0 where
   pub fed : feed (take at log) start ≡ going (finished m (cell_of (take (n - 0) buffer)) cpus how cut e cell words next) [] (take written out)
   pub fits : n ≤ length buffer
-  pub place : cell < maxCells
+  pub place : cell < max_cells
 
 -- the same once a cell is stored
 pub record Stores (log : List ℕ) (start : Going) (m : Machine) (out buffer : List ℕ) (at written n cpus : ℕ) (how : CpuChange) (cut : ℕ) (e : Effect) (cell : ℕ)
     (words : WordsChange) (next : Waiting) (place : ℕ) (change : CellChange) : Type 0 where
   pub applies :
-      Applies log start (withCell place (changedCell change (cell_of (take (n - 0) buffer)) (cell_at m place)) m) out buffer at written n cpus how cut e cell words next
-  pub inside : place < maxCells
+      Applies log start (with_cell place (changed_cell change (cell_of (take (n - 0) buffer)) (cell_at m place)) m) out buffer at written n cpus how cut e cell words next
+  pub inside : place < max_cells
 
 -- the locals of a run, and where it stands, by how far its last line has come
 pub record State : Type 0 where
@@ -155,8 +155,8 @@ module _ (s : State) where
     still-reading e h = subst Stands (sym e) h
 
     -- a line that was read is looked at for or decided, by the cells left
-    pub to-decide : p ≡ toDecide s.left → IsChosen → Stands p
-    unfolding Stands toDecide
+    pub to-decide : p ≡ to_decide s.left → IsChosen → Stands p
+    unfolding Stands to_decide
     to-decide is c = subst Stands (sym is) (go (eqb s.left 0) refl)
       where
         go : (b : Bool) → eqb s.left 0 ≡ b → Stands (elim b as (λ x. Progress) [ true ↦ Progress.Deciding | false ↦ Progress.Looking ])
@@ -164,5 +164,5 @@ module _ (s : State) where
         go false t = (c, eqb-false s.left 0 t)
 
 -- the machine that a run has
-abbrev pub machineIn : (s : State) (p : Progress) → Stands s p → Machine
-machineIn s p h = s.machine
+abbrev pub machine_in : (s : State) (p : Progress) → Stands s p → Machine
+machine_in s p h = s.machine

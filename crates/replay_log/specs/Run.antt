@@ -1,42 +1,42 @@
 -- What a run over a piece of a log gives.
 use Rattle.std.specs.Prelude.{◌≡◌, Bool, true, false, ◌&&◌, List, [], ◌++◌, ℕ, ◌+◌, ◌-◌, ◌≤◌, min, leb, ltb, eqb, length, take, drop}
 use Rattle.machine_state.specs.declared.Answer.{Answer}
-use Rattle.texts.specs.Texts.{answerLine}
+use Rattle.texts.specs.Texts.{answer_line}
 use Rattle.replay_log.specs.declared.Progress.{Progress}
 use Rattle.replay_log.specs.declared.Progress.TheVariants.{Reading, Looking, Deciding, Applying, Storing}
 use Rattle.replay_log.specs.declared.Replay.{Replay}
 use Rattle.replay_log.specs.declared.Ran.{Ran}
-use Rattle.replay_log.specs.Feed.{feed, goingOf, keptBytes}
+use Rattle.replay_log.specs.Feed.{feed, going_of, kept_bytes}
 
 -- another turn comes: a line that was read is brought to its end, and a line is read where bytes are left, and room for an answer
-unfoldable pub goesOn : Progress → ℕ → ℕ → ℕ → ℕ → Bool
-goesOn Reading at given written room = ltb at given && leb 32 (room - written)
-goesOn Looking at given written room = true
-goesOn Deciding at given written room = true
-goesOn Applying at given written room = true
-goesOn Storing at given written room = true
+unfoldable pub goes_on : Progress → ℕ → ℕ → ℕ → ℕ → Bool
+goes_on Reading at given written room = ltb at given && leb 32 (room - written)
+goes_on Looking at given written room = true
+goes_on Deciding at given written room = true
+goes_on Applying at given written room = true
+goes_on Storing at given written room = true
 
 -- a line is decided once no cell is left to look at
-unfoldable pub toDecide : ℕ → Progress
-toDecide left = elim (eqb left 0) [ true ↦ Deciding | false ↦ Looking ]
+unfoldable pub to_decide : ℕ → Progress
+to_decide left = elim (eqb left 0) [ true ↦ Deciding | false ↦ Looking ]
 
 -- so many bytes of a kept line count, of which no more are kept
 pub record Begun (line : List ℕ) (len r : ℕ) : Type 0 where
-  pub is : r ≡ min len keptBytes
-  pub size : length line ≡ keptBytes
+  pub is : r ≡ min len kept_bytes
+  pub size : length line ≡ kept_bytes
 
 -- an answer's line stands behind what was written, and nothing else is changed
 pub record Puts (answer : Answer) (written : ℕ) (before : List ℕ) (place : ℕ) (after : List ℕ) : Type 0 where
-  pub text : take place after ≡ take written before ++ answerLine answer
+  pub text : take place after ≡ take written before ++ answer_line answer
   pub rest : drop place after ≡ drop place before
-  pub ahead : place ≡ written + length (answerLine answer)
+  pub ahead : place ≡ written + length (answer_line answer)
   pub inside : place ≤ length before
   pub size : length after ≡ length before
 
 -- the log up to `taken`, fed to what was kept, gives the run to go on with and the text written; the rest of the buffer stays; and the run
 -- stops where the log is taken or no line fits
 pub record Runs (kept : Replay) (log before : List ℕ) (r : Ran) (after : List ℕ) : Type 0 where
-  pub fed : feed (take r.taken log) (goingOf kept []) ≡ goingOf r.replay (take r.written after)
+  pub fed : feed (take r.taken log) (going_of kept []) ≡ going_of r.replay (take r.written after)
   pub rest : drop r.written after ≡ drop r.written before
   pub taken : r.taken ≤ length log
   pub written : r.written ≤ length before

@@ -4,9 +4,9 @@
 // has no line feed yet, at most one more than a line may have. What is decided on an event is
 // stored in place, part by part; nothing hands the machine over.
 ghost use Rattle.std.specs.Prelude.{◌≡◌, [], ◌++◌, ◌+◌, ◌-◌, ◌≤◌, min, length, take, drop};
-ghost use Rattle.texts.specs.Texts.{putLine, putCount};
-ghost use Rattle.replay_log.specs.Feed.{textAtEnd, lineLength, goingOf};
-ghost use Rattle.replay_log.specs.Run.{goesOn, toDecide, Begun, Puts, Runs};
+ghost use Rattle.texts.specs.Texts.{put_line, put_count};
+ghost use Rattle.replay_log.specs.Feed.{text_at_end, line_length, going_of};
+ghost use Rattle.replay_log.specs.Run.{goes_on, to_decide, Begun, Puts, Runs};
 
 use asking::Effect;
 use comms::{CellSets, WordsChange};
@@ -38,7 +38,7 @@ pub struct Ran {
 // The index of the first line feed from `at` on, or the length.
 fn line_end(log: &[u8], at: usize) -> usize
     requires { at ≤ length log.now }
-    ensures value { result ≡ at + lineLength (drop at log.now) }
+    ensures value { result ≡ at + line_length (drop at log.now) }
     ensures upper_bound { result ≤ length log.now }
 {
     let mut i = at;
@@ -83,7 +83,7 @@ fn append(line: &mut [u8], len: usize, bytes: &[u8]) -> usize
 
 // A run that has read nothing yet.
 pub fn start(machine: Machine) -> Replay
-    ensures { goingOf result [] ≡ record { machine = machine; begun = []; text = [] } }
+    ensures { going_of result [] ≡ record { machine = machine; begun = []; text = [] } }
 {
     Replay {
         machine,
@@ -107,7 +107,7 @@ enum Progress {
 // bytes of the log are left, and room for an answer.
 fn goes_on(progress: Progress, at: usize, given: usize, written: usize, room: usize) -> bool
     requires { written ≤ room }
-    ensures { result ≡ goesOn progress at given written room }
+    ensures { result ≡ goes_on progress at given written room }
 {
     match progress {
         Progress::Reading => (at < given) & (MAX_TEXT <= room - written),
@@ -120,7 +120,7 @@ fn goes_on(progress: Progress, at: usize, given: usize, written: usize, room: us
 
 // A line's progress with these cells left to look at.
 fn to_decide(left: u16) -> Progress
-    ensures { result ≡ toDecide left }
+    ensures { result ≡ to_decide left }
 {
     if left == 0 {
         Progress::Deciding
@@ -349,8 +349,8 @@ pub fn run(kept: Replay, log: &[u8], out: &mut [u8]) -> Ran
 // Writes the answer to the start of `out` and gives its length; 0 too where `out` has less room than a
 // line may need.
 pub fn finish(kept: Replay, out: &mut [u8]) -> usize
-    ensures value { result ≡ putCount 32 (textAtEnd (goingOf kept [])) out.old }
-    ensures out_after { out.new ≡ putLine 32 (textAtEnd (goingOf kept [])) out.old }
+    ensures value { result ≡ put_count 32 (text_at_end (going_of kept [])) out.old }
+    ensures out_after { out.new ≡ put_line 32 (text_at_end (going_of kept [])) out.old }
 {
     let line = kept.line;
     if begun(line, kept.len) == 0 {

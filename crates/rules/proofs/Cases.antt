@@ -9,7 +9,7 @@ use borrow.Author.Tests.{ltb-true, eqb-true, not-false}
 use lib.Dec.{ltb, eqb}
 use lib.IntN.{ℤ, pos}
 use Rattle.base.specs.Lists.{any}
-use Rattle.base.specs.Rules.{Refusal, firstRule, EPERM}
+use Rattle.base.specs.Rules.{Refusal, first_rule, EPERM}
 use Rattle.base.proofs.Rules.{by-rule, by-none}
 use Rattle.cell_record.specs.declared.CellConfig.{CellConfig}
 use Rattle.cell_record.specs.CellRecord.{cell_of}
@@ -22,20 +22,20 @@ use Rattle.machine_state.specs.declared.Answer.{Answer}
 use Rattle.machine_state.specs.declared.Answer.TheVariants.{Code, Wait, Done, Off, Bad, Stopped, Held, Denied, Idle}
 use Rattle.machine_state.specs.declared.Machine.{Machine}
 use Rattle.machine_state.specs.declared.Stepped.{Stepped}
-use Rattle.rules.specs.State.{rootId, live, commAt, cellIds, no_id, first, answered}
-use Rattle.rules.specs.Unobeyed.{unobeyed, isObeyed}
-use Rattle.rules.specs.Effects.{effect, cellCutOff}
-use Rattle.rules.specs.Create.{someCellLocked, otherCellLocked, tooLong, invalid, nameInUse, busy, freeId, noRoom}
-use Rattle.rules.specs.Asking.{mayBeMessaged, nextToMessage, asks, tells, everyCell, isDestroy, asking, telling, waitFor, finished, endCode, tell, carryOut, noneToAsk, ask, consents, hear, cutsOff, hearsAt, heardAt, stillWaits, pollCell, shutdownRequest, reconfigCompleted}
-use Rattle.rules.specs.Calls.{hypervisorDisable, cellCreate, cellStart, cellSetLoadable, cellDestroy, ends, disableCall, createCall, targetCall, callByCode, call}
+use Rattle.rules.specs.State.{root_id, live, comm_at, cell_ids, no_id, first, answered}
+use Rattle.rules.specs.Unobeyed.{unobeyed, is_obeyed}
+use Rattle.rules.specs.Effects.{effect, cell_cut_off}
+use Rattle.rules.specs.Create.{some_cell_locked, other_cell_locked, too_long, invalid, name_in_use, busy, free_id, no_room}
+use Rattle.rules.specs.Asking.{may_be_messaged, next_to_message, asks, tells, every_cell, is_destroy, asking, telling, wait_for, finished, end_code, tell, carry_out, none_to_ask, ask, consents, hear, cuts_off, hears_at, heard_at, still_waits, poll_cell, shutdown_request, reconfig_completed}
+use Rattle.rules.specs.Calls.{hypervisor_disable, cell_create, cell_start, cell_set_loadable, cell_destroy, ends, disable_call, create_call, target_call, call_by_code, call}
 use Rattle.rules.specs.Step.{obeyed, step}
-use Rattle.rules.specs.Answers.{isUnobeyed}
+use Rattle.rules.specs.Answers.{is_unobeyed}
 use Rattle.rules.proofs.Ids.{by-test}
 
 -- ---- the six words
 
-pub word-cases : (P : Answer → Type 0) → P Off → P Bad → P Stopped → P Held → P Denied → P Idle → (w : Answer) → isUnobeyed w ≡ true → P w
-unfolding isUnobeyed
+pub word-cases : (P : Answer → Type 0) → P Off → P Bad → P Stopped → P Held → P Denied → P Idle → (w : Answer) → is_unobeyed w ≡ true → P w
+unfolding is_unobeyed
 word-cases P a b c d e f (Code z) u = absurd (true≢false (sym u))
 word-cases P a b c d e f (Wait id) u = absurd (true≢false (sym u))
 word-cases P a b c d e f Done u = absurd (true≢false (sym u))
@@ -51,18 +51,18 @@ word-cases P a b c d e f Idle u = f
 -- each row gives a word and the machine as it was
 record Word (m : Machine) (s : Stepped) : Type 0 where
   word : Answer
-  unheeded : isUnobeyed word ≡ true
+  unheeded : is_unobeyed word ≡ true
   kept : s ≡ answered word m
 
 Words : Machine → List (Refusal Stepped) → Type 0
 Words m [] = Unit {0}
 Words m (r ∷ rs) = Word m r.code × Words m rs
 
-says : (w : Answer) (m : Machine) → isUnobeyed w ≡ true → Word m (answered w m)
+says : (w : Answer) (m : Machine) → is_unobeyed w ≡ true → Word m (answered w m)
 says w m h = record { word = w; unheeded = h; kept = refl }
 
 words : (e : Event) (m : Machine) → Words m (unobeyed e m)
-unfolding Words unobeyed isUnobeyed
+unfolding Words unobeyed is_unobeyed
 words (Call cpu code a1 a2) m = (says Off m refl, (says Bad m refl, (says Stopped m refl, (says Held m refl, tt))))
 words (Store cpu word value) m = (says Off m refl, (says Bad m refl, (says Stopped m refl, (says Held m refl, (says Denied m refl, tt)))))
 words (Fault cpu) m = (says Off m refl, (says Bad m refl, (says Stopped m refl, (says Held m refl, tt))))
@@ -74,9 +74,9 @@ applies : List (Refusal Stepped) → Bool
 applies rs = any (λ (r : Refusal Stepped). r.when) rs
 
 table-cases : (P : Stepped → Type 0) (m : Machine) (rs : List (Refusal Stepped)) (otherwise : Stepped) → Words m rs
-    → ((w : Answer) → isUnobeyed w ≡ true → applies rs ≡ true → P (answered w m))
+    → ((w : Answer) → is_unobeyed w ≡ true → applies rs ≡ true → P (answered w m))
     → (applies rs ≡ false → P otherwise)
-    → P (firstRule rs otherwise)
+    → P (first_rule rs otherwise)
 unfolding Words applies any
 table-cases P m [] otherwise ws f g = by-none P otherwise (g refl)
 table-cases P m (r ∷ rs) otherwise ws f g =
@@ -85,10 +85,10 @@ table-cases P m (r ∷ rs) otherwise ws f g =
     (λ e. table-cases P m rs otherwise ws.1 (λ w u t. f w u (rw e t)) (λ t. g (rw e t)))
 
 pub step-cases : (P : Stepped → Type 0) (e : Event) (bytes : List ℕ) (m : Machine)
-    → ((w : Answer) → isUnobeyed w ≡ true → isObeyed e m ≡ false → P (answered w m))
-    → (isObeyed e m ≡ true → P (obeyed e bytes m))
+    → ((w : Answer) → is_unobeyed w ≡ true → is_obeyed e m ≡ false → P (answered w m))
+    → (is_obeyed e m ≡ true → P (obeyed e bytes m))
     → P (step e bytes m)
-unfolding step isObeyed applies
+unfolding step is_obeyed applies
 step-cases P e bytes m f g =
     table-cases P m (unobeyed e m) (obeyed e bytes m) (words e m) (λ w u t. f w u (ap not t)) (λ t. g (ap not t))
 
@@ -105,18 +105,18 @@ foremost : (a b c : Bool) → (a && b && c) ≡ true → a ≡ true
 foremost true b c h = refl
 foremost false b c h = h
 
-next-later : (among : ℕ → Bool) (after : ℕ) (m : Machine) → ltb (nextToMessage among after m) no_id ≡ true → after < nextToMessage among after m
-unfolding nextToMessage
+next-later : (among : ℕ → Bool) (after : ℕ) (m : Machine) → ltb (next_to_message among after m) no_id ≡ true → after < next_to_message among after m
+unfolding next_to_message
 next-later among after m h =
-    let found = first (λ id. ltb after id && among id && mayBeMessaged m id) cellIds in
+    let found = first (λ id. ltb after id && among id && may_be_messaged m id) cell_ids in
     ltb-true after found
-    (foremost (ltb after found) (among found) (mayBeMessaged m found)
-    (first_passes (λ id. ltb after id && among id && mayBeMessaged m id) cellIds h))
+    (foremost (ltb after found) (among found) (may_be_messaged m found)
+    (first_passes (λ id. ltb after id && among id && may_be_messaged m id) cell_ids h))
 
 -- ---- a call that tells
 
-end-code : (P : ℤ → Type 0) (kind : CallKind) (target : ℕ) → ((n : ℕ) → P (pos n)) → P (endCode kind target)
-unfolding endCode
+end-code : (P : ℤ → Type 0) (kind : CallKind) (target : ℕ) → ((n : ℕ) → P (pos n)) → P (end_code kind target)
+unfolding end_code
 end-code P Disable target f = f 0
 end-code P Create target f = f (target % 2 ^ 31)
 end-code P Start target f = f 0
@@ -124,102 +124,102 @@ end-code P SetLoadable target f = f 0
 end-code P Destroy target f = f 0
 
 pub tell-cases : (P : Stepped → Type 0) (kind : CallKind) (target after : ℕ) (m : Machine)
-    → ((c : ℕ) → after < c → P (waitFor kind (telling target c 0) reconfigCompleted m))
+    → ((c : ℕ) → after < c → P (wait_for kind (telling target c 0) reconfig_completed m))
     → ((n : ℕ) → P (finished (pos n) m))
     → P (tell kind target after m)
 unfolding tell
 tell-cases P kind target after m waits ends =
     by-test P _ _ _
-    (λ h. waits _ (next-later everyCell after m h))
+    (λ h. waits _ (next-later every_cell after m h))
     (λ h. end-code (λ z. P (finished z m)) kind target ends)
 
 -- ---- a call that has its effect
 
 pub carry-cases : (P : Stepped → Type 0) (kind : CallKind) (target : ℕ) (new : CellConfig) (m : Machine)
-    → ((c : ℕ) → 0 < c → P (waitFor kind (telling target c 0) reconfigCompleted (effect kind target new m)))
+    → ((c : ℕ) → 0 < c → P (wait_for kind (telling target c 0) reconfig_completed (effect kind target new m)))
     → ((n : ℕ) → P (finished (pos n) (effect kind target new m)))
-    → P (carryOut kind target new m)
-unfolding carryOut
+    → P (carry_out kind target new m)
+unfolding carry_out
 carry-cases P kind target new m waits ends =
     by-test P (tells kind) _ _ (λ h. tell-cases P kind target 0 (effect kind target new m) waits ends) (λ h. ends 0)
 
 -- ---- a call that asks
 
 pub ask-cases : (P : Stepped → Type 0) (kind : CallKind) (target after : ℕ) (new : CellConfig) (m : Machine)
-    → ((c : ℕ) → after < c → P (waitFor kind (asking target c 0) shutdownRequest m))
-    → ((isDestroy kind && otherCellLocked target m) ≡ true → P (finished EPERM m))
-    → ((c : ℕ) → 0 < c → P (waitFor kind (telling target c 0) reconfigCompleted (effect kind target new m)))
+    → ((c : ℕ) → after < c → P (wait_for kind (asking target c 0) shutdown_request m))
+    → ((is_destroy kind && other_cell_locked target m) ≡ true → P (finished EPERM m))
+    → ((c : ℕ) → 0 < c → P (wait_for kind (telling target c 0) reconfig_completed (effect kind target new m)))
     → ((n : ℕ) → P (finished (pos n) (effect kind target new m)))
     → P (ask kind target after new m)
-unfolding ask noneToAsk
+unfolding ask none_to_ask
 ask-cases P kind target after new m waits locked tells ends =
     by-test P _ _ _
     (λ h. waits _ (next-later (asks kind target) after m h))
-    (λ h. by-test P (isDestroy kind && otherCellLocked target m) _ _ locked (λ l. carry-cases P kind target new m tells ends))
+    (λ h. by-test P (is_destroy kind && other_cell_locked target m) _ _ locked (λ l. carry-cases P kind target new m tells ends))
 
 -- ---- a poll: nothing heard, a denial or a lock, or a move on, on the machine where the cell is heard
 
 -- that is the machine as it was, or with the cell cut off
-pub heard-cases : (P : Machine → Type 0) (stage : Stage) (m : Machine) → P m → P (cellCutOff stage.cell m) → P (heardAt stage m)
-unfolding heardAt
-heard-cases P stage m kept cut = by-test P (cutsOff stage m) (cellCutOff stage.cell m) m (λ h. cut) (λ h. kept)
+pub heard-cases : (P : Machine → Type 0) (stage : Stage) (m : Machine) → P m → P (cell_cut_off stage.cell m) → P (heard_at stage m)
+unfolding heard_at
+heard-cases P stage m kept cut = by-test P (cuts_off stage m) (cell_cut_off stage.cell m) m (λ h. cut) (λ h. kept)
 
 pub poll-asking : (P : Stepped → Type 0) (kind : CallKind) (target cell polls : ℕ) (new : CellConfig) (m : Machine)
     → let stage = asking target cell polls in
-    let heard = heardAt stage m in
-    (hearsAt stage m ≡ false → P (answered (Wait cell) (stillWaits kind stage m)))
+    let heard = heard_at stage m in
+    (hears_at stage m ≡ false → P (answered (Wait cell) (still_waits kind stage m)))
     → P (finished EPERM heard)
-    → ((c : ℕ) → cell < c → P (waitFor kind (asking target c 0) shutdownRequest heard))
-    → ((c : ℕ) → 0 < c → P (waitFor kind (telling target c 0) reconfigCompleted (effect kind target new heard)))
+    → ((c : ℕ) → cell < c → P (wait_for kind (asking target c 0) shutdown_request heard))
+    → ((c : ℕ) → 0 < c → P (wait_for kind (telling target c 0) reconfig_completed (effect kind target new heard)))
     → ((n : ℕ) → P (finished (pos n) (effect kind target new heard)))
-    → P (pollCell kind stage new m)
-unfolding pollCell hear
+    → P (poll_cell kind stage new m)
+unfolding poll_cell hear
 poll-asking P kind target cell polls new m unheard refused waits tells ends =
-    let heard = heardAt (asking target cell polls) m in
-    by-test P (hearsAt (asking target cell polls) m) _ _
-    (λ h. by-test P (consents (commAt heard cell)) _ _ (λ c. ask-cases P kind target cell new heard waits (λ l. refused) tells ends) (λ c. refused))
+    let heard = heard_at (asking target cell polls) m in
+    by-test P (hears_at (asking target cell polls) m) _ _
+    (λ h. by-test P (consents (comm_at heard cell)) _ _ (λ c. ask-cases P kind target cell new heard waits (λ l. refused) tells ends) (λ c. refused))
     unheard
 
 pub poll-telling : (P : Stepped → Type 0) (kind : CallKind) (target cell polls : ℕ) (new : CellConfig) (m : Machine)
     → let stage = telling target cell polls in
-    let heard = heardAt stage m in
-    (hearsAt stage m ≡ false → P (answered (Wait cell) (stillWaits kind stage m)))
-    → ((c : ℕ) → cell < c → P (waitFor kind (telling target c 0) reconfigCompleted heard))
+    let heard = heard_at stage m in
+    (hears_at stage m ≡ false → P (answered (Wait cell) (still_waits kind stage m)))
+    → ((c : ℕ) → cell < c → P (wait_for kind (telling target c 0) reconfig_completed heard))
     → ((n : ℕ) → P (finished (pos n) heard))
-    → P (pollCell kind stage new m)
-unfolding pollCell hear
+    → P (poll_cell kind stage new m)
+unfolding poll_cell hear
 poll-telling P kind target cell polls new m unheard tells ends =
-    by-test P (hearsAt (telling target cell polls) m) _ _
-    (λ h. tell-cases P kind target cell (heardAt (telling target cell polls) m) tells ends) unheard
+    by-test P (hears_at (telling target cell polls) m) _ _
+    (λ h. tell-cases P kind target cell (heard_at (telling target cell polls) m) tells ends) unheard
 
 -- ---- a call: it ends at once with a code and changes nothing more, or its table lets it pass, and it begins to ask
 
 -- what Create's table has shown
 pub record MayCreate (cpu : ℕ) (bytes : List ℕ) (m : Machine) : Type 0 where
-  pub unlocked : someCellLocked m ≡ false
-  pub short : tooLong bytes ≡ false
+  pub unlocked : some_cell_locked m ≡ false
+  pub short : too_long bytes ≡ false
   pub valid : invalid bytes m ≡ false
-  pub unnamed : nameInUse (cell_of bytes).name m ≡ false
+  pub unnamed : name_in_use (cell_of bytes).name m ≡ false
   pub free : busy cpu (cell_of bytes) m ≡ false
-  pub room : noRoom (cell_of bytes) m ≡ false
+  pub room : no_room (cell_of bytes) m ≡ false
 
 -- what the table of Start, Set Loadable and Destroy has
 pub record MayTarget (kind : CallKind) (id : ℕ) (m : Machine) : Type 0 where
-  pub other : eqb id rootId ≡ false
+  pub other : eqb id root_id ≡ false
   pub lives : live m id ≡ true
-  pub unlocked : (isDestroy kind && otherCellLocked id m) ≡ false
+  pub unlocked : (is_destroy kind && other_cell_locked id m) ≡ false
 
 pub record Ways (P : Stepped → Type 0) (cpu code a1 : ℕ) (bytes : List ℕ) (m : Machine) : Type 0 where
   pub at_once : (z : ℤ) → P (ends z m)
-  pub disables : code ≡ hypervisorDisable → P (ask Disable rootId 0 (cell_of bytes) m)
-  pub creates : code ≡ cellCreate → MayCreate cpu bytes m → P (ask Create (freeId m) 0 (cell_of bytes) m)
-  pub starts : code ≡ cellStart → MayTarget Start a1 m → P (ask Start a1 0 (cell_of bytes) m)
-  pub loads : code ≡ cellSetLoadable → MayTarget SetLoadable a1 m → P (ask SetLoadable a1 0 (cell_of bytes) m)
-  pub destroys : code ≡ cellDestroy → MayTarget Destroy a1 m → P (ask Destroy a1 0 (cell_of bytes) m)
+  pub disables : code ≡ hypervisor_disable → P (ask Disable root_id 0 (cell_of bytes) m)
+  pub creates : code ≡ cell_create → MayCreate cpu bytes m → P (ask Create (free_id m) 0 (cell_of bytes) m)
+  pub starts : code ≡ cell_start → MayTarget Start a1 m → P (ask Start a1 0 (cell_of bytes) m)
+  pub loads : code ≡ cell_set_loadable → MayTarget SetLoadable a1 m → P (ask SetLoadable a1 0 (cell_of bytes) m)
+  pub destroys : code ≡ cell_destroy → MayTarget Destroy a1 m → P (ask Destroy a1 0 (cell_of bytes) m)
 
 target-cases : (P : Stepped → Type 0) (kind : CallKind) (id : ℕ) (new : CellConfig) (m : Machine)
-    → ((z : ℤ) → P (ends z m)) → (MayTarget kind id m → P (ask kind id 0 new m)) → P (targetCall kind id new m)
-unfolding targetCall
+    → ((z : ℤ) → P (ends z m)) → (MayTarget kind id m → P (ask kind id 0 new m)) → P (target_call kind id new m)
+unfolding target_call
 target-cases P kind id new m at_once goes_on =
     by-rule P _ _ _ (λ e. at_once _)
     (λ a. by-rule P _ _ _ (λ e. at_once _)
@@ -227,8 +227,8 @@ target-cases P kind id new m at_once goes_on =
     (λ c. by-none P _ (goes_on (record { other = a; lives = not-false (live m id) b; unlocked = c })))))
 
 create-cases : (P : Stepped → Type 0) (cpu : ℕ) (bytes : List ℕ) (m : Machine)
-    → ((z : ℤ) → P (ends z m)) → (MayCreate cpu bytes m → P (ask Create (freeId m) 0 (cell_of bytes) m)) → P (createCall cpu bytes m)
-unfolding createCall
+    → ((z : ℤ) → P (ends z m)) → (MayCreate cpu bytes m → P (ask Create (free_id m) 0 (cell_of bytes) m)) → P (create_call cpu bytes m)
+unfolding create_call
 create-cases P cpu bytes m at_once goes_on =
     by-rule P _ _ _ (λ e. at_once _)
     (λ a. by-rule P _ _ _ (λ e. at_once _)
@@ -239,7 +239,7 @@ create-cases P cpu bytes m at_once goes_on =
     (λ f. by-none P _ (goes_on (record { unlocked = a; short = b; valid = c; unnamed = d; free = e; room = f }))))))))
 
 pub call-cases : (P : Stepped → Type 0) (cpu code a1 a2 : ℕ) (bytes : List ℕ) (m : Machine) → Ways P cpu code a1 bytes m → P (call cpu code a1 a2 bytes m)
-unfolding call callByCode disableCall
+unfolding call call_by_code disable_call
 call-cases P cpu code a1 a2 bytes m ways =
     by-rule P _ _ _ (λ e. now _)
     (λ e. by-rule P _ _ _ (λ e. now _)
@@ -248,7 +248,7 @@ call-cases P cpu code a1 a2 bytes m ways =
     now : (z : ℤ) → P (ends z m)
     now z = ways.at_once z
 
-    by_code : P (callByCode cpu code a1 a2 bytes m)
+    by_code : P (call_by_code cpu code a1 a2 bytes m)
     by_code =
         by-rule P _ _ _ (λ e. ways.disables (eqb-true code 0 e))
         (λ e. by-rule P _ _ _ (λ e. create-cases P cpu bytes m now (ways.creates (eqb-true code 1 e)))

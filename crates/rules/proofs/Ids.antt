@@ -12,46 +12,46 @@ use Rattle.base.specs.Lists.{any, from}
 use Rattle.base.proofs.Tests.{is_true, is_false, holds, fails}
 use Rattle.cpu_set.specs.CpuSet.{bit}
 use Rattle.cpu_set.proofs.Laws.{bit-number}
-use Rattle.rules.specs.State.{first, no_id, hasId, idsWhere}
-use Rattle.rules.specs.Effects.{addId, dropId}
+use Rattle.rules.specs.State.{first, no_id, has_id, ids_where}
+use Rattle.rules.specs.Effects.{add_id, drop_id}
 
 -- ---- sets of IDs
 
-pub hasId-lt : (ids id : ℕ) → T (hasId ids id) → id < 16
-unfolding hasId
-hasId-lt ids id = go (ltb id 16) refl
+pub has_id-lt : (ids id : ℕ) → T (has_id ids id) → id < 16
+unfolding has_id
+has_id-lt ids id = go (ltb id 16) refl
   where
     go : (b : Bool) → ltb id 16 ≡ b → T (elim b [ true ↦ bit id ids | false ↦ false ]) → id < 16
     go true e t = ltb-true id 16 e
     go false e t = absurd t
 
-pub has-where : (p : ℕ → Bool) (id : ℕ) → hasId (idsWhere p) id ≡ (ltb id 16 && p id)
-unfolding hasId
+pub has-where : (p : ℕ → Bool) (id : ℕ) → has_id (ids_where p) id ≡ (ltb id 16 && p id)
+unfolding has_id
 has-where p id = go (ltb id 16) refl
   where
-    go : (b : Bool) → ltb id 16 ≡ b → elim b [ true ↦ bit id (idsWhere p) | false ↦ false ] ≡ (b && p id)
+    go : (b : Bool) → ltb id 16 ≡ b → elim b [ true ↦ bit id (ids_where p) | false ↦ false ] ≡ (b && p id)
     go true e = bit-number 16 p id (ltb-true id 16 e)
     go false e = refl
 
 -- a set of IDs has none from 16 up
-none-past : (ids id : ℕ) → ltb id 16 ≡ false → hasId ids id ≡ false
-none-past ids id e = is_false (hasId ids id) (λ t. absurd (omega (arith, hasId-lt ids id t, ltb-false id 16 e)))
+none-past : (ids id : ℕ) → ltb id 16 ≡ false → has_id ids id ≡ false
+none-past ids id e = is_false (has_id ids id) (λ t. absurd (omega (arith, has_id-lt ids id t, ltb-false id 16 e)))
 
-pub has-added : (new ids id : ℕ) → new < 16 → hasId (addId new ids) id ≡ (eqb id new || hasId ids id)
-unfolding addId
-has-added new ids id h = has-where (λ k. eqb k new || hasId ids k) id ∙ go (ltb id 16) refl
+pub has-added : (new ids id : ℕ) → new < 16 → has_id (add_id new ids) id ≡ (eqb id new || has_id ids id)
+unfolding add_id
+has-added new ids id h = has-where (λ k. eqb k new || has_id ids k) id ∙ go (ltb id 16) refl
   where
-    go : (b : Bool) → ltb id 16 ≡ b → (b && (eqb id new || hasId ids id)) ≡ (eqb id new || hasId ids id)
+    go : (b : Bool) → ltb id 16 ≡ b → (b && (eqb id new || has_id ids id)) ≡ (eqb id new || has_id ids id)
     go true e = refl
     go false e =
         let other : eqb id new ≡ false = is_false (eqb id new) (λ t. absurd (omega (arith, eqb→eq id new t, ltb-false id 16 e))) in
         rw (other, none-past ids id e)
 
-pub has-dropped : (gone ids id : ℕ) → hasId (dropId gone ids) id ≡ (not (eqb id gone) && hasId ids id)
-unfolding dropId
-has-dropped gone ids id = has-where (λ k. not (eqb k gone) && hasId ids k) id ∙ go (ltb id 16) refl
+pub has-dropped : (gone ids id : ℕ) → has_id (drop_id gone ids) id ≡ (not (eqb id gone) && has_id ids id)
+unfolding drop_id
+has-dropped gone ids id = has-where (λ k. not (eqb k gone) && has_id ids k) id ∙ go (ltb id 16) refl
   where
-    go : (b : Bool) → ltb id 16 ≡ b → (b && (not (eqb id gone) && hasId ids id)) ≡ (not (eqb id gone) && hasId ids id)
+    go : (b : Bool) → ltb id 16 ≡ b → (b && (not (eqb id gone) && has_id ids id)) ≡ (not (eqb id gone) && has_id ids id)
     go true e = refl
     go false e = rw (none-past ids id e) (sym (and-false (not (eqb id gone))))
 

@@ -9,8 +9,8 @@ use Rattle.machine_state.specs.declared.CallKind.{CallKind}
 use Rattle.machine_state.specs.declared.CallKind.TheVariants.{Disable, Create, Start, SetLoadable, Destroy}
 use Rattle.machine_state.specs.declared.Answer.{Answer}
 use Rattle.machine_state.specs.declared.Answer.TheVariants.{Code, Wait}
-use Rattle.rules.specs.State.{cellIds, no_id, isFinal, isLocked, running, failed}
-use Rattle.rules.specs.Asking.{asks, tells, isDestroy, requestApproved, isLastPoll, pollsAfter}
+use Rattle.rules.specs.State.{cell_ids, no_id, is_final, is_locked, running, failed}
+use Rattle.rules.specs.Asking.{asks, tells, is_destroy, request_approved, is_last_poll, polls_after}
 
 -- ".. every live cell's record and state": of the record, the ID, whether it is passive and its reply limit. Root, which has none of these, is
 -- not among them
@@ -44,150 +44,150 @@ pub record Account : Type 0 where
   pub cut : CutOff
 
 -- it moves to a place, with the effect on the way or without; the cell that it heard was cut off; or it stays where it is
-abbrev pub movesTo : CallKind → ℕ → Bool → Place → Account
-movesTo kind target effect place =
+abbrev pub moves_to : CallKind → ℕ → Bool → Place → Account
+moves_to kind target effect place =
     record { kind = kind; target = target; place = place; polls = 0; moved = true; effect = effect; cut = NoneCut }
 
 abbrev pub cutting : CutOff → Account → Account
 cutting cut a = record { kind = a.kind; target = a.target; place = a.place; polls = a.polls; moved = a.moved; effect = a.effect; cut = cut }
 
-abbrev pub staysWith : ℕ → Account → Account
-staysWith polls a = record { kind = a.kind; target = a.target; place = a.place; polls = polls; moved = false; effect = false; cut = NoneCut }
+abbrev pub stays_with : ℕ → Account → Account
+stays_with polls a = record { kind = a.kind; target = a.target; place = a.place; polls = polls; moved = false; effect = false; cut = NoneCut }
 
 abbrev pub stays : Account → Account
-stays a = staysWith a.polls a
+stays a = stays_with a.polls a
 
 -- "active and not passive"
 abbrev pub messageable : Shown → Bool
-messageable s = not (isFinal s.state) && not s.passive
+messageable s = not (is_final s.state) && not s.passive
 
 -- "the next cell to ask or tell, still active and not passive": the first after a given one, and `no_id` where there is none
-unfoldable pub nextShown : (ℕ → Bool) → ℕ → List Shown → ℕ
-nextShown among after [] = no_id
-nextShown among after (s ∷ ss) =
-    elim (ltb after s.id && among s.id && messageable s) [ true ↦ s.id | false ↦ nextShown among after ss ]
+unfoldable pub next_shown : (ℕ → Bool) → ℕ → List Shown → ℕ
+next_shown among after [] = no_id
+next_shown among after (s ∷ ss) =
+    elim (ltb after s.id && among s.id && messageable s) [ true ↦ s.id | false ↦ next_shown among after ss ]
 
 -- "smallest free ID from 1": the first that no live cell has
-unfoldable pub unusedId : List ℕ → List Shown → ℕ
-unusedId [] shown = no_id
-unusedId (id ∷ ids) shown = elim (any (λ (s : Shown). eqb s.id id) shown) [ true ↦ unusedId ids shown | false ↦ id ]
+unfoldable pub unused_id : List ℕ → List Shown → ℕ
+unused_id [] shown = no_id
+unused_id (id ∷ ids) shown = elim (any (λ (s : Shown). eqb s.id id) shown) [ true ↦ unused_id ids shown | false ↦ id ]
 
 -- the cell that the call is about: of Create the new one
-unfoldable pub aboutCell : CallKind → ℕ → List Shown → ℕ
-aboutCell Disable target shown = target
-aboutCell Create target shown = unusedId cellIds shown
-aboutCell Start target shown = target
-aboutCell SetLoadable target shown = target
-aboutCell Destroy target shown = target
+unfoldable pub about_cell : CallKind → ℕ → List Shown → ℕ
+about_cell Disable target shown = target
+about_cell Create target shown = unused_id cell_ids shown
+about_cell Start target shown = target
+about_cell SetLoadable target shown = target
+about_cell Destroy target shown = target
 
 -- "With none left to tell it ends with the new ID or 0"
-unfoldable pub lastCode : CallKind → ℕ → ℤ
-lastCode Disable target = pos 0
-lastCode Create target = pos target
-lastCode Start target = pos 0
-lastCode SetLoadable target = pos 0
-lastCode Destroy target = pos 0
+unfoldable pub last_code : CallKind → ℕ → ℤ
+last_code Disable target = pos 0
+last_code Create target = pos target
+last_code Start target = pos 0
+last_code SetLoadable target = pos 0
+last_code Destroy target = pos 0
 
 -- "tell all remaining cells": Destroy's target is gone, and the cell that Create made, which is shut down, is not told
 abbrev pub remains : ℕ → ℕ → Bool
 remains target id = not (eqb id target)
 
 -- "To move on", telling; `effect` says whether the effect comes with this move
-unfoldable pub tellOn : CallKind → ℕ → Bool → ℕ → List Shown → Account
-tellOn kind target effect after shown =
-    let next = nextShown (remains target) after shown in
-    movesTo kind target effect (elim (ltb next no_id) [ true ↦ Tells next | false ↦ Ended (lastCode kind target) ])
+unfoldable pub tell_on : CallKind → ℕ → Bool → ℕ → List Shown → Account
+tell_on kind target effect after shown =
+    let next = next_shown (remains target) after shown in
+    moves_to kind target effect (elim (ltb next no_id) [ true ↦ Tells next | false ↦ Ended (last_code kind target) ])
 
 -- "the effect comes, Create and Destroy begin to tell and move on, the others end with 0"
-unfoldable pub effectComes : CallKind → ℕ → List Shown → Account
-effectComes kind target shown =
-    elim (tells kind) [ true ↦ tellOn kind target true 0 shown | false ↦ movesTo kind target true (Ended (pos 0)) ]
+unfoldable pub effect_comes : CallKind → ℕ → List Shown → Account
+effect_comes kind target shown =
+    elim (tells kind) [ true ↦ tell_on kind target true 0 shown | false ↦ moves_to kind target true (Ended (pos 0)) ]
 
 -- "Destroy ends with -1 if another cell has a lock (state 1); else the effect comes"
-unfoldable pub lockShown : ℕ → List Shown → Bool
-lockShown target shown = any (λ (s : Shown). not (eqb s.id target) && isLocked s.state) shown
+unfoldable pub lock_shown : ℕ → List Shown → Bool
+lock_shown target shown = any (λ (s : Shown). not (eqb s.id target) && is_locked s.state) shown
 
-unfoldable pub noneLeftToAsk : CallKind → ℕ → List Shown → Account
-noneLeftToAsk kind target shown =
-    elim (isDestroy kind && lockShown target shown) [ true ↦ movesTo kind target false (Ended EPERM) | false ↦ effectComes kind target shown ]
+unfoldable pub none_left_to_ask : CallKind → ℕ → List Shown → Account
+none_left_to_ask kind target shown =
+    elim (is_destroy kind && lock_shown target shown) [ true ↦ moves_to kind target false (Ended EPERM) | false ↦ effect_comes kind target shown ]
 
 -- "To move on", asking: "message the next cell .. and wait for it"
-unfoldable pub askOn : CallKind → ℕ → ℕ → List Shown → Account
-askOn kind target after shown =
-    let next = nextShown (asks kind target) after shown in
-    elim (ltb next no_id) [ true ↦ movesTo kind target false (Asks next) | false ↦ noneLeftToAsk kind target shown ]
+unfoldable pub ask_on : CallKind → ℕ → ℕ → List Shown → Account
+ask_on kind target after shown =
+    let next = next_shown (asks kind target) after shown in
+    elim (ltb next no_id) [ true ↦ moves_to kind target false (Asks next) | false ↦ none_left_to_ask kind target shown ]
 
 -- "It is fed the call", and "begins to ask and moves on"
 unfoldable pub begun : CallKind → ℕ → List Shown → Account
-begun kind target shown = askOn kind (aboutCell kind target shown) 0 shown
+begun kind target shown = ask_on kind (about_cell kind target shown) 0 shown
 
 -- the cell waited for; one that is not shown is running and has no limit
-unfoldable pub cellShown : ℕ → List Shown → Shown
-cellShown id [] = record { id = id; passive = false; limit = 0; state = running }
-cellShown id (s ∷ ss) = elim (eqb s.id id) [ true ↦ s | false ↦ cellShown id ss ]
+unfoldable pub cell_shown : ℕ → List Shown → Shown
+cell_shown id [] = record { id = id; passive = false; limit = 0; state = running }
+cell_shown id (s ∷ ss) = elim (eqb s.id id) [ true ↦ s | false ↦ cell_shown id ss ]
 
-abbrev pub stateShown : ℕ → List Shown → ℕ
-stateShown id shown = (cellShown id shown).state
+abbrev pub state_shown : ℕ → List Shown → ℕ
+state_shown id shown = (cell_shown id shown).state
 
-abbrev pub limitShown : ℕ → List Shown → ℕ
-limitShown id shown = (cellShown id shown).limit
+abbrev pub limit_shown : ℕ → List Shown → ℕ
+limit_shown id shown = (cell_shown id shown).limit
 
 -- "From = 0 and state not final .. Otherwise it is heard: a final state counts as consent; else for message 1 only from = 3 consents"
-unfoldable pub heardBy : ℕ → ℕ → Bool
-heardBy reply state = not (eqb reply 0) || isFinal state
+unfoldable pub heard_by : ℕ → ℕ → Bool
+heard_by reply state = not (eqb reply 0) || is_final state
 
-unfoldable pub consentsBy : ℕ → ℕ → Bool
-consentsBy reply state = isFinal state || eqb reply requestApproved
+unfoldable pub consents_by : ℕ → ℕ → Bool
+consents_by reply state = is_final state || eqb reply request_approved
 
 -- C-14: "the cell's state becomes 3 .. and it is heard as final, in document 01's account too"
-unfoldable pub failedShown : ℕ → List Shown → List Shown
-failedShown id [] = []
-failedShown id (s ∷ ss) =
-    record { id = s.id; passive = s.passive; limit = s.limit; state = elim (eqb s.id id) [ true ↦ failed | false ↦ s.state ] } ∷ failedShown id ss
+unfoldable pub failed_shown : ℕ → List Shown → List Shown
+failed_shown id [] = []
+failed_shown id (s ∷ ss) =
+    record { id = s.id; passive = s.passive; limit = s.limit; state = elim (eqb s.id id) [ true ↦ failed | false ↦ s.state ] } ∷ failed_shown id ss
 
 -- a cell that has shown neither reply nor final state: at the poll that its limit names it is cut off and heard as `cuts` says; else the account
 -- stays where it is, and counts the poll where the cell has a limit
-unfoldable pub unheardAt : ℕ → Account → List Shown → Account → Account
-unheardAt c a shown cuts =
-    elim (isLastPoll (limitShown c shown) a.polls) [ true ↦ cutting (WasCut c) cuts | false ↦ staysWith (pollsAfter (limitShown c shown) a.polls) a ]
+unfoldable pub unheard_at : ℕ → Account → List Shown → Account → Account
+unheard_at c a shown cuts =
+    elim (is_last_poll (limit_shown c shown) a.polls) [ true ↦ cutting (WasCut c) cuts | false ↦ stays_with (polls_after (limit_shown c shown) a.polls) a ]
 
 -- a poll, with the reply of the cell waited for, 0 where there is none: "a cell not heard keeps it as it is; a denial ends it, -1; else it
 -- moves on"; "for message 2 any value serves". An account that has ended stays ended
-unfoldable pub polledAt : Place → Account → ℕ → List Shown → Account
-polledAt (Ended code) a reply shown = stays a
-polledAt (Tells c) a reply shown =
-    elim (heardBy reply (stateShown c shown)) [
-      | true ↦ tellOn a.kind a.target false c shown
-      | false ↦ unheardAt c a shown (tellOn a.kind a.target false c (failedShown c shown))
+unfoldable pub polled_at : Place → Account → ℕ → List Shown → Account
+polled_at (Ended code) a reply shown = stays a
+polled_at (Tells c) a reply shown =
+    elim (heard_by reply (state_shown c shown)) [
+      | true ↦ tell_on a.kind a.target false c shown
+      | false ↦ unheard_at c a shown (tell_on a.kind a.target false c (failed_shown c shown))
     ]
-polledAt (Asks c) a reply shown =
-    elim (heardBy reply (stateShown c shown)) [
-      | true ↦ elim (consentsBy reply (stateShown c shown)) [
-        | true ↦ askOn a.kind a.target c shown
-        | false ↦ movesTo a.kind a.target false (Ended EPERM)
+polled_at (Asks c) a reply shown =
+    elim (heard_by reply (state_shown c shown)) [
+      | true ↦ elim (consents_by reply (state_shown c shown)) [
+        | true ↦ ask_on a.kind a.target c shown
+        | false ↦ moves_to a.kind a.target false (Ended EPERM)
       ]
-      | false ↦ unheardAt c a shown (askOn a.kind a.target c (failedShown c shown))
+      | false ↦ unheard_at c a shown (ask_on a.kind a.target c (failed_shown c shown))
     ]
 
 unfoldable pub polled : Account → ℕ → List Shown → Account
-polled a reply shown = polledAt a.place a reply shown
+polled a reply shown = polled_at a.place a reply shown
 
 -- "It answers `wait` with the cell now waited for, or `code` with its end"
-unfoldable pub answerAt : Place → Answer
-answerAt (Asks c) = Wait c
-answerAt (Tells c) = Wait c
-answerAt (Ended code) = Code code
+unfoldable pub answer_at : Place → Answer
+answer_at (Asks c) = Wait c
+answer_at (Tells c) = Wait c
+answer_at (Ended code) = Code code
 
 abbrev pub answer_of : Account → Answer
-answer_of a = answerAt a.place
+answer_of a = answer_at a.place
 
 -- it has ended; the cell that it waits for, and 0, root, where it has ended
-unfoldable pub endedAt : Place → Bool
-endedAt (Asks c) = false
-endedAt (Tells c) = false
-endedAt (Ended code) = true
+unfoldable pub ended_at : Place → Bool
+ended_at (Asks c) = false
+ended_at (Tells c) = false
+ended_at (Ended code) = true
 
-unfoldable pub waitedAt : Place → ℕ
-waitedAt (Asks c) = c
-waitedAt (Tells c) = c
-waitedAt (Ended code) = 0
+unfoldable pub waited_at : Place → ℕ
+waited_at (Asks c) = c
+waited_at (Tells c) = c
+waited_at (Ended code) = 0

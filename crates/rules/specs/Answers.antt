@@ -5,29 +5,29 @@ use Rattle.machine_state.specs.declared.Answer.{Answer}
 use Rattle.machine_state.specs.declared.Answer.TheVariants.{Code, Wait, Done, Off, Bad, Stopped, Held, Denied, Idle}
 
 -- a negative code
-unfoldable pub isNegative : Answer → Bool
-isNegative (Code (pos n)) = false
-isNegative (Code (negsuc n)) = true
-isNegative (Wait cell) = false
-isNegative Done = false
-isNegative Off = false
-isNegative Bad = false
-isNegative Stopped = false
-isNegative Held = false
-isNegative Denied = false
-isNegative Idle = false
+unfoldable pub is_negative : Answer → Bool
+is_negative (Code (pos n)) = false
+is_negative (Code (negsuc n)) = true
+is_negative (Wait cell) = false
+is_negative Done = false
+is_negative Off = false
+is_negative Bad = false
+is_negative Stopped = false
+is_negative Held = false
+is_negative Denied = false
+is_negative Idle = false
 
 -- the event was not obeyed: one of the words `off`, `bad`, `stopped`, `held`, `denied`, `idle`
-unfoldable pub isUnobeyed : Answer → Bool
-isUnobeyed (Code code) = false
-isUnobeyed (Wait cell) = false
-isUnobeyed Done = false
-isUnobeyed Off = true
-isUnobeyed Bad = true
-isUnobeyed Stopped = true
-isUnobeyed Held = true
-isUnobeyed Denied = true
-isUnobeyed Idle = true
+unfoldable pub is_unobeyed : Answer → Bool
+is_unobeyed (Code code) = false
+is_unobeyed (Wait cell) = false
+is_unobeyed Done = false
+is_unobeyed Off = true
+is_unobeyed Bad = true
+is_unobeyed Stopped = true
+is_unobeyed Held = true
+is_unobeyed Denied = true
+is_unobeyed Idle = true
 
 -- a return code, and `wait`
 unfoldable pub is_code : Answer → Bool
@@ -41,13 +41,13 @@ is_code Held = false
 is_code Denied = false
 is_code Idle = false
 
-unfoldable pub isWait : Answer → Bool
-isWait (Wait id) = true
-isWait (Code code) = false
-isWait Done = false
-isWait Off = false
-isWait Bad = false
-isWait Stopped = false
-isWait Held = false
-isWait Denied = false
-isWait Idle = false
+unfoldable pub is_wait : Answer → Bool
+is_wait (Wait id) = true
+is_wait (Code code) = false
+is_wait Done = false
+is_wait Off = false
+is_wait Bad = false
+is_wait Stopped = false
+is_wait Held = false
+is_wait Denied = false
+is_wait Idle = false

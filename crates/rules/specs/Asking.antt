@@ -12,27 +12,27 @@ use Rattle.machine_state.specs.declared.Waiting.TheVariants.{NoCall, Pending}
 use Rattle.machine_state.specs.declared.Answer.TheVariants.{Code, Wait, Idle}
 use Rattle.machine_state.specs.declared.Machine.{Machine}
 use Rattle.machine_state.specs.declared.Stepped.{Stepped}
-use Rattle.rules.specs.State.{commAt, limitAt, cellIds, no_id, first, active, isFinal, withWaiting, withComm, answered}
-use Rattle.rules.specs.Effects.{effect, withMessage, withReply, cellCutOff}
-use Rattle.rules.specs.Create.{otherCellLocked}
+use Rattle.rules.specs.State.{comm_at, limit_at, cell_ids, no_id, first, active, is_final, with_waiting, with_comm, answered}
+use Rattle.rules.specs.Effects.{effect, with_message, with_reply, cell_cut_off}
+use Rattle.rules.specs.Create.{other_cell_locked}
 
 -- the messages and the consenting reply, by their names in source document 001
-abbrev pub shutdownRequest : ℕ
-shutdownRequest = 1
+abbrev pub shutdown_request : ℕ
+shutdown_request = 1
 
-abbrev pub reconfigCompleted : ℕ
-reconfigCompleted = 2
+abbrev pub reconfig_completed : ℕ
+reconfig_completed = 2
 
-abbrev pub requestApproved : ℕ
-requestApproved = 3
+abbrev pub request_approved : ℕ
+request_approved = 3
 
 -- "Only active, non-passive cells are messaged"
-unfoldable pub mayBeMessaged : Machine → ℕ → Bool
-mayBeMessaged m id = active m id && not (commAt m id).passive
+unfoldable pub may_be_messaged : Machine → ℕ → Bool
+may_be_messaged m id = active m id && not (comm_at m id).passive
 
 -- "one at a time, rising ID": the first after a given cell that passes a test and may be messaged
-unfoldable pub nextToMessage : (ℕ → Bool) → ℕ → Machine → ℕ
-nextToMessage among after m = first (λ id. ltb after id && among id && mayBeMessaged m id) cellIds
+unfoldable pub next_to_message : (ℕ → Bool) → ℕ → Machine → ℕ
+next_to_message among after m = first (λ id. ltb after id && among id && may_be_messaged m id) cell_ids
 
 -- "Start, Set Loadable and Destroy ask their target, Disable all cells"; Create asks nobody
 unfoldable pub asks : CallKind → ℕ → ℕ → Bool
@@ -50,19 +50,19 @@ tells Start = false
 tells SetLoadable = false
 tells Destroy = true
 
-abbrev pub everyCell : ℕ → Bool
-everyCell id = true
+abbrev pub every_cell : ℕ → Bool
+every_cell id = true
 
-unfoldable pub isDestroy : CallKind → Bool
-isDestroy Disable = false
-isDestroy Create = false
-isDestroy Start = false
-isDestroy SetLoadable = false
-isDestroy Destroy = true
+unfoldable pub is_destroy : CallKind → Bool
+is_destroy Disable = false
+is_destroy Create = false
+is_destroy Start = false
+is_destroy SetLoadable = false
+is_destroy Destroy = true
 
 -- "To message a cell: from becomes 0, then to becomes 1 (shutdown request) or 2 (reconfiguration completed)"
 unfoldable pub message : ℕ → CommRegion → CommRegion
-message code c = withMessage code (withReply 0 c)
+message code c = with_message code (with_reply 0 c)
 
 -- the stage of a call that waits for a cell that it has asked, or told, `polls` polls ago
 abbrev pub asking : ℕ → ℕ → ℕ → Stage
@@ -72,64 +72,64 @@ abbrev pub telling : ℕ → ℕ → ℕ → Stage
 telling target cell polls = record { target = target; cell = cell; telling = true; polls = polls }
 
 -- "message the next cell .. and wait for it"
-unfoldable pub waitFor : CallKind → Stage → ℕ → Machine → Stepped
-waitFor kind stage code m =
-    answered (Wait stage.cell) (withWaiting (Pending kind stage) (withComm stage.cell (message code (commAt m stage.cell)) m))
+unfoldable pub wait_for : CallKind → Stage → ℕ → Machine → Stepped
+wait_for kind stage code m =
+    answered (Wait stage.cell) (with_waiting (Pending kind stage) (with_comm stage.cell (message code (comm_at m stage.cell)) m))
 
 -- the call ends with a code
 unfoldable pub finished : ℤ → Machine → Stepped
-finished code m = answered (Code code) (withWaiting NoCall m)
+finished code m = answered (Code code) (with_waiting NoCall m)
 
 -- "the new ID or 0"; an ID is below 16
-unfoldable pub endCode : CallKind → ℕ → ℤ
-endCode Disable target = pos 0
-endCode Create target = pos (target % 2 ^ 31)
-endCode Start target = pos 0
-endCode SetLoadable target = pos 0
-endCode Destroy target = pos 0
+unfoldable pub end_code : CallKind → ℕ → ℤ
+end_code Disable target = pos 0
+end_code Create target = pos (target % 2 ^ 31)
+end_code Start target = pos 0
+end_code SetLoadable target = pos 0
+end_code Destroy target = pos 0
 
 -- move on while telling: "message the next cell to .. tell"; "With none left to tell it ends with the new ID or 0"
 unfoldable pub tell : CallKind → ℕ → ℕ → Machine → Stepped
 tell kind target after m =
-    let next = nextToMessage everyCell after m in
+    let next = next_to_message every_cell after m in
     elim (ltb next no_id) [
-      | true ↦ waitFor kind (telling target next 0) reconfigCompleted m
-      | false ↦ finished (endCode kind target) m
+      | true ↦ wait_for kind (telling target next 0) reconfig_completed m
+      | false ↦ finished (end_code kind target) m
     ]
 
 -- "the effect comes, Create and Destroy begin to tell and move on, the others end with 0"
-unfoldable pub carryOut : CallKind → ℕ → CellConfig → Machine → Stepped
-carryOut kind target new m =
+unfoldable pub carry_out : CallKind → ℕ → CellConfig → Machine → Stepped
+carry_out kind target new m =
     elim (tells kind) [ true ↦ tell kind target 0 (effect kind target new m) | false ↦ finished (pos 0) (effect kind target new m) ]
 
 -- "With none left to ask .., Destroy ends with -1 if another cell has a lock (state 1); else the effect comes"
-unfoldable pub noneToAsk : CallKind → ℕ → CellConfig → Machine → Stepped
-noneToAsk kind target new m =
-    elim (isDestroy kind && otherCellLocked target m) [ true ↦ finished EPERM m | false ↦ carryOut kind target new m ]
+unfoldable pub none_to_ask : CallKind → ℕ → CellConfig → Machine → Stepped
+none_to_ask kind target new m =
+    elim (is_destroy kind && other_cell_locked target m) [ true ↦ finished EPERM m | false ↦ carry_out kind target new m ]
 
 -- move on while asking: "message the next cell to ask .. and wait for it"
 unfoldable pub ask : CallKind → ℕ → ℕ → CellConfig → Machine → Stepped
 ask kind target after new m =
-    let next = nextToMessage (asks kind target) after m in
+    let next = next_to_message (asks kind target) after m in
     elim (ltb next no_id) [
-      | true ↦ waitFor kind (asking target next 0) shutdownRequest m
-      | false ↦ noneToAsk kind target new m
+      | true ↦ wait_for kind (asking target next 0) shutdown_request m
+      | false ↦ none_to_ask kind target new m
     ]
 
 -- "From = 0 and state not final: nothing changes .. Otherwise it is heard"
-unfoldable pub isHeard : CommRegion → Bool
-isHeard c = not (eqb c.reply_from_cell 0) || isFinal c.cell_state
+unfoldable pub is_heard : CommRegion → Bool
+is_heard c = not (eqb c.reply_from_cell 0) || is_final c.cell_state
 
 -- "a final state counts as consent; else for message 1 only from = 3 consents and any other value is a denial"
 unfoldable pub consents : CommRegion → Bool
-consents c = isFinal c.cell_state || eqb c.reply_from_cell requestApproved
+consents c = is_final c.cell_state || eqb c.reply_from_cell request_approved
 
 -- a heard cell: "a denial ends it, -1; else it moves on"; "for message 2 any value serves"
 unfoldable pub hear : CallKind → Stage → CellConfig → Machine → Stepped
 hear kind stage new m =
     elim stage.telling [
       | true ↦ tell kind stage.target stage.cell m
-      | false ↦ elim (consents (commAt m stage.cell)) [
+      | false ↦ elim (consents (comm_at m stage.cell)) [
         | true ↦ ask kind stage.target stage.cell new m
         | false ↦ finished EPERM m
       ]
@@ -138,45 +138,45 @@ hear kind stage new m =
 -- ---- the reply limit. C-14: "a limit L in polls; 0 means none"
 
 -- "the L-th poll after a message": `polls` came before it. A count past the limit is reached by no start
-unfoldable pub isLastPoll : ℕ → ℕ → Bool
-isLastPoll limit polls = not (eqb limit 0) && leb limit (polls + 1)
+unfoldable pub is_last_poll : ℕ → ℕ → Bool
+is_last_poll limit polls = not (eqb limit 0) && leb limit (polls + 1)
 
 -- "where L isn't 0, a waiting call counts the polls since its message"
-unfoldable pub pollsAfter : ℕ → ℕ → ℕ
-pollsAfter limit polls = elim (eqb limit 0) [ true ↦ polls | false ↦ polls + 1 ]
+unfoldable pub polls_after : ℕ → ℕ → ℕ
+polls_after limit polls = elim (eqb limit 0) [ true ↦ polls | false ↦ polls + 1 ]
 
 -- the waiting call with another count
-unfoldable pub withPolls : ℕ → Waiting → Waiting
-withPolls polls NoCall = NoCall
-withPolls polls (Pending kind stage) = Pending kind (record { target = stage.target; cell = stage.cell; telling = stage.telling; polls = polls })
+unfoldable pub with_polls : ℕ → Waiting → Waiting
+with_polls polls NoCall = NoCall
+with_polls polls (Pending kind stage) = Pending kind (record { target = stage.target; cell = stage.cell; telling = stage.telling; polls = polls })
 
 -- "If the L-th poll after a message finds neither reply nor final state"; "a reply seen at that poll wins"
-unfoldable pub cutsOff : Stage → Machine → Bool
-cutsOff stage m = not (isHeard (commAt m stage.cell)) && isLastPoll (limitAt m stage.cell) stage.polls
+unfoldable pub cuts_off : Stage → Machine → Bool
+cuts_off stage m = not (is_heard (comm_at m stage.cell)) && is_last_poll (limit_at m stage.cell) stage.polls
 
 -- ".. the cell's state becomes 3, its CPUs stop, and it is heard as final": whether the cell is heard, and the machine on which it is
-unfoldable pub hearsAt : Stage → Machine → Bool
-hearsAt stage m = isHeard (commAt m stage.cell) || cutsOff stage m
+unfoldable pub hears_at : Stage → Machine → Bool
+hears_at stage m = is_heard (comm_at m stage.cell) || cuts_off stage m
 
-unfoldable pub heardAt : Stage → Machine → Machine
-heardAt stage m = elim (cutsOff stage m) [ true ↦ cellCutOff stage.cell m | false ↦ m ]
+unfoldable pub heard_at : Stage → Machine → Machine
+heard_at stage m = elim (cuts_off stage m) [ true ↦ cell_cut_off stage.cell m | false ↦ m ]
 
 -- "a poll answered `wait C` for the same message changes that count and nothing else"
-unfoldable pub stillWaits : CallKind → Stage → Machine → Machine
-stillWaits kind stage m =
-    withWaiting (withPolls (pollsAfter (limitAt m stage.cell) stage.polls) (Pending kind stage)) m
+unfoldable pub still_waits : CallKind → Stage → Machine → Machine
+still_waits kind stage m =
+    with_waiting (with_polls (polls_after (limit_at m stage.cell) stage.polls) (Pending kind stage)) m
 
 -- "A poll looks at the cell waited for. From = 0 and state not final: nothing changes, answer `wait C`. Otherwise it is heard"
-unfoldable pub pollCell : CallKind → Stage → CellConfig → Machine → Stepped
-pollCell kind stage new m =
-    elim (hearsAt stage m) [ true ↦ hear kind stage new (heardAt stage m) | false ↦ answered (Wait stage.cell) (stillWaits kind stage m) ]
+unfoldable pub poll_cell : CallKind → Stage → CellConfig → Machine → Stepped
+poll_cell kind stage new m =
+    elim (hears_at stage m) [ true ↦ hear kind stage new (heard_at stage m) | false ↦ answered (Wait stage.cell) (still_waits kind stage m) ]
 
 -- a poll of the waiting call; where none waits the poll is not obeyed
 unfoldable pub poll : Waiting → CellConfig → Machine → Stepped
 poll NoCall new m = answered Idle m
-poll (Pending kind stage) new m = pollCell kind stage new m
+poll (Pending kind stage) new m = poll_cell kind stage new m
 
 -- the machine on which a poll of the waiting call hears
-unfoldable pub heardIn : Waiting → Machine → Machine
-heardIn NoCall m = m
-heardIn (Pending kind stage) m = heardAt stage m
+unfoldable pub heard_in : Waiting → Machine → Machine
+heard_in NoCall m = m
+heard_in (Pending kind stage) m = heard_at stage m

@@ -9,7 +9,7 @@ use Rattle.machine_state.specs.declared.RegionWord.TheVariants.{NoWord, Word}
 use Rattle.machine_state.specs.declared.RegionByte.{RegionByte}
 use Rattle.machine_state.specs.declared.RegionByte.TheVariants.{NoByte, Byte}
 use Rattle.machine_state.specs.declared.Machine.{Machine}
-use Rattle.rules.specs.State.{rootId, cell_at, commAt, live}
+use Rattle.rules.specs.State.{root_id, cell_at, comm_at, live}
 
 -- a number's bytes, the lowest first
 unfoldable pub bytes : ℕ → ℕ → List ℕ
@@ -21,16 +21,16 @@ unfoldable pub layout : CommRegion → ℕ → ℕ → List ℕ
 layout c timer cpus =
     bytes 4 c.msg_to_cell ++ bytes 4 c.reply_from_cell ++ bytes 4 c.cell_state ++ bytes 4 0 ++ bytes 2 timer ++ bytes 2 cpus
 
-abbrev pub shownIn : ℕ → Machine → List ℕ
-shownIn id m = layout (commAt m id) m.system.timer (count (cell_at m id).cpus)
+abbrev pub shown_in : ℕ → Machine → List ℕ
+shown_in id m = layout (comm_at m id) m.system.timer (count (cell_at m id).cpus)
 
 -- a live cell other than root sees it, if it has one
-unfoldable pub seesRegion : ℕ → Machine → Bool
-seesRegion id m = not (eqb id rootId) && live m id && (commAt m id).mapped
+unfoldable pub sees_region : ℕ → Machine → Bool
+sees_region id m = not (eqb id root_id) && live m id && (comm_at m id).mapped
 
 -- one of its 5 words, and one of its 20 bytes: what lies past them in its page is named by neither document
-unfoldable pub regionWord : ℕ → ℕ → Machine → RegionWord
-regionWord id word m = elim (seesRegion id m && ltb word 5) [ true ↦ Word (u32 (4 * word) (shownIn id m)) | false ↦ NoWord ]
+unfoldable pub region_word : ℕ → ℕ → Machine → RegionWord
+region_word id word m = elim (sees_region id m && ltb word 5) [ true ↦ Word (u32 (4 * word) (shown_in id m)) | false ↦ NoWord ]
 
-unfoldable pub regionByte : ℕ → ℕ → Machine → RegionByte
-regionByte id offset m = elim (seesRegion id m && ltb offset 20) [ true ↦ Byte (get_or (shownIn id m) offset 0) | false ↦ NoByte ]
+unfoldable pub region_byte : ℕ → ℕ → Machine → RegionByte
+region_byte id offset m = elim (sees_region id m && ltb offset 20) [ true ↦ Byte (get_or (shown_in id m) offset 0) | false ↦ NoByte ]

@@ -2,7 +2,7 @@
 -- store to from since the message put there, if other than 0; states are as the events before left them." It sees events, their answers, the
 -- owner of a CPU that stores, and of the live cells their records and states; never the waiting call, nor the words `to` and `from`.
 use Rattle.std.specs.Prelude.{Bool, true, false, ◌&&◌, List, [], ◌∷◌, ℕ, eqb}
-use Rattle.base.specs.Rules.{firstRule, ◌⇒◌}
+use Rattle.base.specs.Rules.{first_rule, ◌⇒◌}
 use Rattle.machine_state.specs.declared.CallKind.{CallKind}
 use Rattle.machine_state.specs.declared.CallKind.TheVariants as CallKind
 use Rattle.machine_state.specs.declared.Event.{Event}
@@ -10,21 +10,21 @@ use Rattle.machine_state.specs.declared.Event.TheVariants.{Call, Store, Fault, E
 use Rattle.machine_state.specs.declared.Answer.{Answer}
 use Rattle.machine_state.specs.declared.Answer.TheVariants.{Code, Wait, Done, Off, Bad, Stopped, Held, Denied, Idle}
 use Rattle.machine_state.specs.declared.Machine.{Machine}
-use Rattle.rules.specs.State.{commAt, cpuAt, stateAt, limitAt, cellIds, live}
-use Rattle.rules.specs.Calls.{hypervisorDisable, cellCreate, cellStart, cellSetLoadable}
-use Rattle.rules.specs.Account.{Shown, Account, stays, begun, polled, waitedAt}
+use Rattle.rules.specs.State.{comm_at, cpu_at, state_at, limit_at, cell_ids, live}
+use Rattle.rules.specs.Calls.{hypervisor_disable, cell_create, cell_start, cell_set_loadable}
+use Rattle.rules.specs.Account.{Shown, Account, stays, begun, polled, waited_at}
 
 -- what a machine shows of its live cells, by rising ID
-unfoldable pub shownFrom : Machine → List ℕ → List Shown
-shownFrom m [] = []
-shownFrom m (id ∷ ids) =
+unfoldable pub shown_from : Machine → List ℕ → List Shown
+shown_from m [] = []
+shown_from m (id ∷ ids) =
     elim (live m id) [
-      | true ↦ record { id = id; passive = (commAt m id).passive; limit = limitAt m id; state = stateAt m id } ∷ shownFrom m ids
-      | false ↦ shownFrom m ids
+      | true ↦ record { id = id; passive = (comm_at m id).passive; limit = limit_at m id; state = state_at m id } ∷ shown_from m ids
+      | false ↦ shown_from m ids
     ]
 
-abbrev pub shownBy : Machine → List Shown
-shownBy m = shownFrom m cellIds
+abbrev pub shown_by : Machine → List Shown
+shown_by m = shown_from m cell_ids
 
 -- the account, and the reply of the cell that it waits for: what the last obeyed store since the message put there, 0 where there was none
 pub record Watched : Type 0 where
@@ -32,13 +32,13 @@ pub record Watched : Type 0 where
   pub reply : ℕ
 
 -- the kind of call that a code means, for the calls that may wait; the others never do
-unfoldable pub kindOfCode : ℕ → CallKind
-kindOfCode code =
-    firstRule
-    ((eqb code hypervisorDisable ⇒ CallKind.Disable)
-    ∷ (eqb code cellCreate ⇒ CallKind.Create)
-    ∷ (eqb code cellStart ⇒ CallKind.Start)
-    ∷ (eqb code cellSetLoadable ⇒ CallKind.SetLoadable)
+unfoldable pub kind_of_code : ℕ → CallKind
+kind_of_code code =
+    first_rule
+    ((eqb code hypervisor_disable ⇒ CallKind.Disable)
+    ∷ (eqb code cell_create ⇒ CallKind.Create)
+    ∷ (eqb code cell_start ⇒ CallKind.Start)
+    ∷ (eqb code cell_set_loadable ⇒ CallKind.SetLoadable)
     ∷ [])
     CallKind.Destroy
 
@@ -50,43 +50,43 @@ target_of CallKind.Start a1 = a1
 target_of CallKind.SetLoadable a1 = a1
 target_of CallKind.Destroy a1 = a1
 
-unfoldable pub watchedCall : ℕ → ℕ → Machine → Watched
-watchedCall code a1 m = record { account = begun (kindOfCode code) (target_of (kindOfCode code) a1) (shownBy m); reply = 0 }
+unfoldable pub watched_call : ℕ → ℕ → Machine → Watched
+watched_call code a1 m = record { account = begun (kind_of_code code) (target_of (kind_of_code code) a1) (shown_by m); reply = 0 }
 
 -- a poll: the account hears the reply. Where it moves on, no reply to its next message is there yet
-unfoldable pub watchedPoll : Watched → Machine → Watched
-watchedPoll w m =
-    let a = polled w.account w.reply (shownBy m) in record { account = a; reply = elim a.moved [ true ↦ 0 | false ↦ w.reply ] }
+unfoldable pub watched_poll : Watched → Machine → Watched
+watched_poll w m =
+    let a = polled w.account w.reply (shown_by m) in record { account = a; reply = elim a.moved [ true ↦ 0 | false ↦ w.reply ] }
 
 -- any other event: the account stays as it is
-abbrev pub watchedOther : ℕ → Watched → Watched
-watchedOther reply w = record { account = stays w.account; reply = reply }
+abbrev pub watched_other : ℕ → Watched → Watched
+watched_other reply w = record { account = stays w.account; reply = reply }
 
 -- an obeyed store
-unfoldable pub isDone : Answer → Bool
-isDone (Code code) = false
-isDone (Wait cell) = false
-isDone Done = true
-isDone Off = false
-isDone Bad = false
-isDone Stopped = false
-isDone Held = false
-isDone Denied = false
-isDone Idle = false
+unfoldable pub is_done : Answer → Bool
+is_done (Code code) = false
+is_done (Wait cell) = false
+is_done Done = true
+is_done Off = false
+is_done Bad = false
+is_done Stopped = false
+is_done Held = false
+is_done Denied = false
+is_done Idle = false
 
 -- a store to `from` (word 1) of the cell waited for, by a CPU of it
-unfoldable pub watchedStore : ℕ → ℕ → ℕ → Answer → Machine → Watched → Watched
-watchedStore cpu word value answer m w =
-    elim (isDone answer && eqb word 1 && eqb (cpuAt m cpu).cell (waitedAt w.account.place)) [
-      | true ↦ watchedOther value w
-      | false ↦ watchedOther w.reply w
+unfoldable pub watched_store : ℕ → ℕ → ℕ → Answer → Machine → Watched → Watched
+watched_store cpu word value answer m w =
+    elim (is_done answer && eqb word 1 && eqb (cpu_at m cpu).cell (waited_at w.account.place)) [
+      | true ↦ watched_other value w
+      | false ↦ watched_other w.reply w
     ]
 
 -- one event of a run while the call waits: its machine before it, the event and its answer
 unfoldable pub watched : Event → Answer → Machine → Watched → Watched
-watched (Call cpu code a1 a2) answer m w = watchedOther w.reply w
-watched (Store cpu word value) answer m w = watchedStore cpu word value answer m w
-watched (Fault cpu) answer m w = watchedOther w.reply w
-watched (Exit cpu kind) answer m w = watchedOther w.reply w
-watched Poll answer m w = watchedPoll w m
-watched Malformed answer m w = watchedOther w.reply w
+watched (Call cpu code a1 a2) answer m w = watched_other w.reply w
+watched (Store cpu word value) answer m w = watched_store cpu word value answer m w
+watched (Fault cpu) answer m w = watched_other w.reply w
+watched (Exit cpu kind) answer m w = watched_other w.reply w
+watched Poll answer m w = watched_poll w m
+watched Malformed answer m w = watched_other w.reply w

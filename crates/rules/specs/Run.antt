@@ -1,13 +1,13 @@
 -- Lists of events. Demand 3: "Each event meets the machine that the last one left; nobody else writes it meanwhile." A claim about lists is said
 -- of a manager, that is of what answers one event, so that it can be held against a wrong one.
 use Rattle.std.specs.Prelude.{◌≡◌, Bool, true, false, List, [], ◌∷◌, ℕ, pos}
-use Rattle.system_record.specs.SystemRecord.{bootAnswer}
+use Rattle.system_record.specs.SystemRecord.{boot_answer}
 use Rattle.machine_state.specs.declared.Event.{Event}
 use Rattle.machine_state.specs.declared.Event.TheVariants.{Call, Store, Fault, Exit, Poll, Malformed}
 use Rattle.machine_state.specs.declared.Answer.{Answer}
 use Rattle.machine_state.specs.declared.Machine.{Machine}
 use Rattle.machine_state.specs.declared.Stepped.{Stepped}
-use Rattle.machine_state.specs.Machine.{bootOf}
+use Rattle.machine_state.specs.Machine.{boot_of}
 
 -- an event with the record's bytes that come with it
 pub record Line : Type 0 where
@@ -15,13 +15,13 @@ pub record Line : Type 0 where
   pub bytes : List ℕ
 
 -- the event is a poll
-unfoldable pub isPoll : Event → Bool
-isPoll (Call cpu code a1 a2) = false
-isPoll (Store cpu word value) = false
-isPoll (Fault cpu) = false
-isPoll (Exit cpu kind) = false
-isPoll Poll = true
-isPoll Malformed = false
+unfoldable pub is_poll : Event → Bool
+is_poll (Call cpu code a1 a2) = false
+is_poll (Store cpu word value) = false
+is_poll (Fault cpu) = false
+is_poll (Exit cpu kind) = false
+is_poll Poll = true
+is_poll Malformed = false
 
 -- what answers an event and gives the next machine; `Step.step` is ours
 abbrev pub Manager : Type 0
@@ -49,10 +49,10 @@ after manager m (l ∷ ls) = after manager (manager l.event l.bytes m).machine l
 
 -- "an accepted start": boot answers 0
 abbrev pub Accepted : List ℕ → Type 0
-Accepted record-bytes = bootAnswer record-bytes ≡ pos 0
+Accepted record-bytes = boot_answer record-bytes ≡ pos 0
 
 abbrev pub start_of : List ℕ → Machine
-start_of record-bytes = (bootOf record-bytes).machine
+start_of record-bytes = (boot_of record-bytes).machine
 
 -- "state reached from an accepted start": some list of lines ends in it
 pub record Reached (manager : Manager) (m : Machine) : Type 0 where

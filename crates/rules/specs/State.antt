@@ -12,46 +12,46 @@ use Rattle.machine_state.specs.declared.Power.{Power}
 use Rattle.machine_state.specs.declared.Answer.{Answer}
 use Rattle.machine_state.specs.declared.Machine.{Machine}
 use Rattle.machine_state.specs.declared.Stepped.{Stepped}
-use Rattle.machine_state.specs.Machine.{cellIn, commIn, cpuIn, maxCells}
+use Rattle.machine_state.specs.Machine.{cell_in, comm_in, cpu_in, max_cells}
 
 -- ---- what stands in the machine
 
 -- "the root is 0"
-abbrev pub rootId : ℕ
-rootId = 0
+abbrev pub root_id : ℕ
+root_id = 0
 
 -- the boot set: "all boot CPUs (the started CPUs)"
-abbrev pub bootCpus : Machine → ℕ
-bootCpus m = m.system.cpus
+abbrev pub boot_cpu_set : Machine → ℕ
+boot_cpu_set m = m.system.cpus
 
 -- cell `id`, its communication words, its state word and its reply limit; CPU `cpu`
 abbrev pub cell_at : Machine → ℕ → Cell
-cell_at m id = cellIn m.cells id
+cell_at m id = cell_in m.cells id
 
-abbrev pub commAt : Machine → ℕ → CommRegion
-commAt m id = commIn m.comms id
+abbrev pub comm_at : Machine → ℕ → CommRegion
+comm_at m id = comm_in m.comms id
 
-abbrev pub stateAt : Machine → ℕ → ℕ
-stateAt m id = (commAt m id).cell_state
+abbrev pub state_at : Machine → ℕ → ℕ
+state_at m id = (comm_at m id).cell_state
 
-abbrev pub limitAt : Machine → ℕ → ℕ
-limitAt m id = (commAt m id).reply_limit
+abbrev pub limit_at : Machine → ℕ → ℕ
+limit_at m id = (comm_at m id).reply_limit
 
-abbrev pub cpuAt : Machine → ℕ → Cpu
-cpuAt m cpu = cpuIn m.cpus cpu
+abbrev pub cpu_at : Machine → ℕ → Cpu
+cpu_at m cpu = cpu_in m.cpus cpu
 
 -- the regions of a cell: those that its count names
-abbrev pub regionsAt : Machine → ℕ → List MemRegion
-regionsAt m id = take (cell_at m id).region_count (cell_at m id).regions
+abbrev pub regions_at : Machine → ℕ → List MemRegion
+regions_at m id = take (cell_at m id).region_count (cell_at m id).regions
 
 -- ---- cells
 
 -- the IDs of the cells that are not root, and the number that is no cell's: "Up to 16 cells"
-abbrev pub cellIds : List ℕ
-cellIds = from 1 15
+abbrev pub cell_ids : List ℕ
+cell_ids = from 1 15
 
 abbrev pub no_id : ℕ
-no_id = maxCells
+no_id = max_cells
 
 -- the first ID of a list that passes a test; `no_id` where none does
 unfoldable pub first : (ℕ → Bool) → List ℕ → ℕ
@@ -59,48 +59,48 @@ first p [] = no_id
 first p (id ∷ ids) = elim (p id) [ true ↦ id | false ↦ first p ids ]
 
 -- a set of IDs has `id`; the set of the IDs that a test picks
-unfoldable pub hasId : ℕ → ℕ → Bool
-hasId ids id = elim (ltb id maxCells) [ true ↦ bit id ids | false ↦ false ]
+unfoldable pub has_id : ℕ → ℕ → Bool
+has_id ids id = elim (ltb id max_cells) [ true ↦ bit id ids | false ↦ false ]
 
-abbrev pub idsWhere : (ℕ → Bool) → ℕ
-idsWhere p = number_of maxCells p
+abbrev pub ids_where : (ℕ → Bool) → ℕ
+ids_where p = number_of max_cells p
 
 -- "live (created, not destroyed)"
 abbrev pub live : Machine → ℕ → Bool
-live m id = hasId m.live_ids id
+live m id = has_id m.live_ids id
 
 -- "State is 0 running, 1 running locked, 2 shut down, 3 failed; 2 and 3 are final"
 abbrev pub running : ℕ
 running = 0
 
-abbrev pub runningLocked : ℕ
-runningLocked = 1
+abbrev pub running_locked : ℕ
+running_locked = 1
 
-abbrev pub shutDown : ℕ
-shutDown = 2
+abbrev pub shut_down : ℕ
+shut_down = 2
 
 abbrev pub failed : ℕ
 failed = 3
 
-abbrev pub isFinal : ℕ → Bool
-isFinal state = eqb state shutDown || eqb state failed
+abbrev pub is_final : ℕ → Bool
+is_final state = eqb state shut_down || eqb state failed
 
-abbrev pub isLocked : ℕ → Bool
-isLocked state = eqb state runningLocked
+abbrev pub is_locked : ℕ → Bool
+is_locked state = eqb state running_locked
 
 -- "A non-root cell with any other value is *active*"
 unfoldable pub active : Machine → ℕ → Bool
-active m id = not (eqb id rootId) && live m id && not (isFinal (stateAt m id))
+active m id = not (eqb id root_id) && live m id && not (is_final (state_at m id))
 
 -- a CPU's owner: the one live non-root cell whose record names it, or root where none does
 unfoldable pub named_by : Machine → ℕ → ℕ → Bool
 named_by m cpu id = live m id && member cpu (cell_at m id).cpus
 
-unfoldable pub orRoot : ℕ → ℕ
-orRoot id = elim (ltb id no_id) [ true ↦ id | false ↦ rootId ]
+unfoldable pub or_root : ℕ → ℕ
+or_root id = elim (ltb id no_id) [ true ↦ id | false ↦ root_id ]
 
-unfoldable pub cpuOwner : Machine → ℕ → ℕ
-cpuOwner m cpu = orRoot (first (named_by m cpu) cellIds)
+unfoldable pub cpu_owner : Machine → ℕ → ℕ
+cpu_owner m cpu = or_root (first (named_by m cpu) cell_ids)
 
 -- ---- the waiting call
 
@@ -111,8 +111,8 @@ waits (Pending kind stage) = true
 
 -- ---- the machine with another part
 
-unfoldable pub withWaiting : Waiting → Machine → Machine
-withWaiting waiting m = record {
+unfoldable pub with_waiting : Waiting → Machine → Machine
+with_waiting waiting m = record {
   power = m.power;
   system = m.system;
   pool_used = m.pool_used;
@@ -124,8 +124,8 @@ withWaiting waiting m = record {
   waiting = waiting;
 }
 
-unfoldable pub withPower : Power → Machine → Machine
-withPower power m = record {
+unfoldable pub with_power : Power → Machine → Machine
+with_power power m = record {
   power = power;
   system = m.system;
   pool_used = m.pool_used;
@@ -137,8 +137,8 @@ withPower power m = record {
   waiting = m.waiting;
 }
 
-unfoldable pub withPool : ℕ → Machine → Machine
-withPool pages m = record {
+unfoldable pub with_pool : ℕ → Machine → Machine
+with_pool pages m = record {
   power = m.power;
   system = m.system;
   pool_used = pages;
@@ -150,8 +150,8 @@ withPool pages m = record {
   waiting = m.waiting;
 }
 
-unfoldable pub withIds : ℕ → Machine → Machine
-withIds ids m = record {
+unfoldable pub with_ids : ℕ → Machine → Machine
+with_ids ids m = record {
   power = m.power;
   system = m.system;
   pool_used = m.pool_used;
@@ -163,8 +163,8 @@ withIds ids m = record {
   waiting = m.waiting;
 }
 
-unfoldable pub withRootCpus : ℕ → Machine → Machine
-withRootCpus cpus m = record {
+unfoldable pub with_root_cpus : ℕ → Machine → Machine
+with_root_cpus cpus m = record {
   power = m.power;
   system = m.system;
   pool_used = m.pool_used;
@@ -176,8 +176,8 @@ withRootCpus cpus m = record {
   waiting = m.waiting;
 }
 
-unfoldable pub withCell : ℕ → Cell → Machine → Machine
-withCell id c m = record {
+unfoldable pub with_cell : ℕ → Cell → Machine → Machine
+with_cell id c m = record {
   power = m.power;
   system = m.system;
   pool_used = m.pool_used;
@@ -189,8 +189,8 @@ withCell id c m = record {
   waiting = m.waiting;
 }
 
-unfoldable pub withComm : ℕ → CommRegion → Machine → Machine
-withComm id words m = record {
+unfoldable pub with_comm : ℕ → CommRegion → Machine → Machine
+with_comm id words m = record {
   power = m.power;
   system = m.system;
   pool_used = m.pool_used;
@@ -202,8 +202,8 @@ withComm id words m = record {
   waiting = m.waiting;
 }
 
-unfoldable pub withCpus : List Cpu → Machine → Machine
-withCpus cpus m = record {
+unfoldable pub with_cpus : List Cpu → Machine → Machine
+with_cpus cpus m = record {
   power = m.power;
   system = m.system;
   pool_used = m.pool_used;
@@ -215,8 +215,8 @@ withCpus cpus m = record {
   waiting = m.waiting;
 }
 
-abbrev pub withCpu : ℕ → Cpu → Machine → Machine
-withCpu cpu p m = withCpus (set m.cpus cpu p) m
+abbrev pub with_cpu : ℕ → Cpu → Machine → Machine
+with_cpu cpu p m = with_cpus (set m.cpus cpu p) m
 
 -- an answer and the machine after it
 unfoldable pub answered : Answer → Machine → Stepped

@@ -11,43 +11,43 @@ use Rattle.machine_state.specs.declared.Event.TheVariants.{Call, Store, Fault, E
 use Rattle.machine_state.specs.declared.Answer.TheVariants.{Off, Bad, Stopped, Held, Denied, Idle}
 use Rattle.machine_state.specs.declared.Machine.{Machine}
 use Rattle.machine_state.specs.declared.Stepped.{Stepped}
-use Rattle.rules.specs.State.{rootId, bootCpus, commAt, cpuAt, isFinal, waits, answered}
+use Rattle.rules.specs.State.{root_id, boot_cpu_set, comm_at, cpu_at, is_final, waits, answered}
 
 -- "off | not booted, or after Disable succeeded"
-unfoldable pub isOn : Power → Bool
-isOn Unbooted = false
-isOn On = true
-isOn Disabled = false
+unfoldable pub is_on : Power → Bool
+is_on Unbooted = false
+is_on On = true
+is_on Disabled = false
 
 abbrev pub off : Machine → Refusal Stepped
-off m = not (isOn m.power) ⇒ answered Off m
+off m = not (is_on m.power) ⇒ answered Off m
 
 -- "bad | CPU outside the boot set, exit kind above 3, malformed line"
-abbrev pub badCpu : ℕ → Machine → Refusal Stepped
-badCpu cpu m = not (member cpu (bootCpus m)) ⇒ answered Bad m
+abbrev pub bad_cpu : ℕ → Machine → Refusal Stepped
+bad_cpu cpu m = not (member cpu (boot_cpu_set m)) ⇒ answered Bad m
 
-abbrev pub badKind : ℕ → Machine → Refusal Stepped
-badKind kind m = ltb 3 kind ⇒ answered Bad m
+abbrev pub bad_kind : ℕ → Machine → Refusal Stepped
+bad_kind kind m = ltb 3 kind ⇒ answered Bad m
 
-abbrev pub badLine : Machine → Refusal Stepped
-badLine m = true ⇒ answered Bad m
+abbrev pub bad_line : Machine → Refusal Stepped
+bad_line m = true ⇒ answered Bad m
 
 -- "stopped | CPU stopped or failed"
 abbrev pub stopped : ℕ → Machine → Refusal Stepped
-stopped cpu m = (cpuAt m cpu).stopped || (cpuAt m cpu).failed ⇒ answered Stopped m
+stopped cpu m = (cpu_at m cpu).stopped || (cpu_at m cpu).failed ⇒ answered Stopped m
 
 -- "held | event on a root CPU while a call waits"
 abbrev pub held : ℕ → Machine → Refusal Stepped
-held cpu m = eqb (cpuAt m cpu).cell rootId && waits m.waiting ⇒ answered Held m
+held cpu m = eqb (cpu_at m cpu).cell root_id && waits m.waiting ⇒ answered Held m
 
 -- "denied | store by root, by a cell with no comm region, to a word above 2, or to the state word once final"
-unfoldable pub storeDenied : ℕ → ℕ → Machine → Bool
-storeDenied cpu word m =
-    let cell = (cpuAt m cpu).cell in
-    eqb cell rootId || not (commAt m cell).mapped || ltb 2 word || eqb word 2 && isFinal (commAt m cell).cell_state
+unfoldable pub store_denied : ℕ → ℕ → Machine → Bool
+store_denied cpu word m =
+    let cell = (cpu_at m cpu).cell in
+    eqb cell root_id || not (comm_at m cell).mapped || ltb 2 word || eqb word 2 && is_final (comm_at m cell).cell_state
 
 abbrev pub denied : ℕ → ℕ → Machine → Refusal Stepped
-denied cpu word m = storeDenied cpu word m ⇒ answered Denied m
+denied cpu word m = store_denied cpu word m ⇒ answered Denied m
 
 -- "idle | poll with no call waiting"
 abbrev pub idle : Machine → Refusal Stepped
@@ -55,13 +55,13 @@ idle m = not (waits m.waiting) ⇒ answered Idle m
 
 -- the rows that can apply to an event. A poll has no CPU, a malformed line looks at none
 unfoldable pub unobeyed : Event → Machine → List (Refusal Stepped)
-unobeyed (Call cpu code a1 a2) m = off m ∷ badCpu cpu m ∷ stopped cpu m ∷ held cpu m ∷ []
-unobeyed (Store cpu word value) m = off m ∷ badCpu cpu m ∷ stopped cpu m ∷ held cpu m ∷ denied cpu word m ∷ []
-unobeyed (Fault cpu) m = off m ∷ badCpu cpu m ∷ stopped cpu m ∷ held cpu m ∷ []
-unobeyed (Exit cpu kind) m = off m ∷ badCpu cpu m ∷ badKind kind m ∷ stopped cpu m ∷ held cpu m ∷ []
+unobeyed (Call cpu code a1 a2) m = off m ∷ bad_cpu cpu m ∷ stopped cpu m ∷ held cpu m ∷ []
+unobeyed (Store cpu word value) m = off m ∷ bad_cpu cpu m ∷ stopped cpu m ∷ held cpu m ∷ denied cpu word m ∷ []
+unobeyed (Fault cpu) m = off m ∷ bad_cpu cpu m ∷ stopped cpu m ∷ held cpu m ∷ []
+unobeyed (Exit cpu kind) m = off m ∷ bad_cpu cpu m ∷ bad_kind kind m ∷ stopped cpu m ∷ held cpu m ∷ []
 unobeyed Poll m = off m ∷ idle m ∷ []
-unobeyed Malformed m = off m ∷ badLine m ∷ []
+unobeyed Malformed m = off m ∷ bad_line m ∷ []
 
 -- an event is obeyed where none of them applies
-unfoldable pub isObeyed : Event → Machine → Bool
-isObeyed e m = not (any (λ (r : Refusal Stepped). r.when) (unobeyed e m))
+unfoldable pub is_obeyed : Event → Machine → Bool
+is_obeyed e m = not (any (λ (r : Refusal Stepped). r.when) (unobeyed e m))

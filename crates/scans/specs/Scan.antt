@@ -5,43 +5,43 @@ use Rattle.machine_state.specs.declared.Cpu.{Cpu}
 use Rattle.machine_state.specs.declared.Event.{Event}
 use Rattle.machine_state.specs.declared.Event.TheVariants.{Call, Store, Fault, Exit, Poll, Malformed}
 use Rattle.machine_state.specs.declared.Machine.{Machine}
-use Rattle.machine_state.specs.Machine.{maxCells}
-use Rattle.rules.specs.State.{rootId, cell_at, stateAt, cpuAt, isFinal}
-use Rattle.rules.specs.Create.{someCellLocked}
-use Rattle.rules.specs.Effects.{counted, callCounter, failCpu, allFailed}
-use Rattle.rules.specs.Calls.{cellCreate}
-use Rattle.cpu_table.specs.CpuTable.{cpuIndex}
-use Rattle.comms.specs.Comms.{cellIndex}
-use Rattle.unobeyed.specs.Admission.{cpuFor, cellFor}
+use Rattle.machine_state.specs.Machine.{max_cells}
+use Rattle.rules.specs.State.{root_id, cell_at, state_at, cpu_at, is_final}
+use Rattle.rules.specs.Create.{some_cell_locked}
+use Rattle.rules.specs.Effects.{counted, call_counter, fail_cpu, all_failed}
+use Rattle.rules.specs.Calls.{cell_create}
+use Rattle.cpu_table.specs.CpuTable.{cpu_index}
+use Rattle.comms.specs.Comms.{cell_index}
+use Rattle.unobeyed.specs.Admission.{cpu_for, cell_for}
 use Rattle.live_cells.specs.declared.Found.{Found}
-use Rattle.live_cells.specs.Looks.{foundLive, asksCreate}
-use Rattle.create_rules.specs.Rows.{createCode}
+use Rattle.live_cells.specs.Looks.{found_live, asks_create}
+use Rattle.create_rules.specs.Rows.{create_code}
 
 -- once CPU `cpu` has failed, the state of its cell becomes failed
-unfoldable pub cellFails : ℕ → Machine → Bool
-cellFails cpu m =
-    let id = (cpuAt m cpu).cell in
-    not (eqb id rootId) && ltb id maxCells && allFailed (cell_at m id).cpus (set m.cpus cpu (failCpu (cpuAt m cpu))) && not (isFinal (stateAt m id))
+unfoldable pub cell_fails : ℕ → Machine → Bool
+cell_fails cpu m =
+    let id = (cpu_at m cpu).cell in
+    not (eqb id root_id) && ltb id max_cells && all_failed (cell_at m id).cpus (set m.cpus cpu (fail_cpu (cpu_at m cpu))) && not (is_final (state_at m id))
 
 -- of a Create, already counted, the code that refuses it, or 0; of a fault 1 where the cell fails; of any other event 0
-unfoldable pub scanOf : Event → List ℕ → Machine → ℤ
-scanOf (Call cpu code a1 a2) bytes m = elim (eqb code cellCreate) [ true ↦ createCode cpu bytes (counted callCounter cpu m) | false ↦ pos 0 ]
-scanOf (Store cpu word value) bytes m = pos 0
-scanOf (Fault cpu) bytes m = elim (cellFails (cpuIndex cpu) m) [ true ↦ pos 1 | false ↦ pos 0 ]
-scanOf (Exit cpu kind) bytes m = pos 0
-scanOf Poll bytes m = pos 0
-scanOf Malformed bytes m = pos 0
+unfoldable pub scan_of : Event → List ℕ → Machine → ℤ
+scan_of (Call cpu code a1 a2) bytes m = elim (eqb code cell_create) [ true ↦ create_code cpu bytes (counted call_counter cpu m) | false ↦ pos 0 ]
+scan_of (Store cpu word value) bytes m = pos 0
+scan_of (Fault cpu) bytes m = elim (cell_fails (cpu_index cpu) m) [ true ↦ pos 1 | false ↦ pos 0 ]
+scan_of (Exit cpu kind) bytes m = pos 0
+scan_of Poll bytes m = pos 0
+scan_of Malformed bytes m = pos 0
 
 -- the parts of a machine that a scan looks at; for a Create also whether a cell has locked the configuration, and what a look at all live cells found
-pub record Scans (s : SystemConfig) (pages live root : ℕ) (ps : List Cpu) (p : Cpu) (cellSet word : ℕ) (closed : Bool) (seen : Found) (e : Event)
+pub record Scans (s : SystemConfig) (pages live root : ℕ) (ps : List Cpu) (p : Cpu) (cell_set word : ℕ) (closed : Bool) (seen : Found) (e : Event)
     (bytes : List ℕ) (m : Machine) : Type 0 where
   pub system : m.system ≡ s
   pub used : m.pool_used ≡ pages
   pub ids : m.live_ids ≡ live
-  pub rootCpus : m.root_cpus ≡ root
+  pub root_cpus : m.root_cpus ≡ root
   pub cpus : m.cpus ≡ ps
-  pub own : cpuAt m (cpuFor e) ≡ p
-  pub set : (cell_at m (cellIndex p.cell)).cpus ≡ cellSet
-  pub state : stateAt m (cellIndex (cellFor e p.cell m.waiting)) ≡ word
-  pub locked : asksCreate e ≡ true → closed ≡ someCellLocked m
-  pub found : asksCreate e ≡ true → seen ≡ foundLive bytes m
+  pub own : cpu_at m (cpu_for e) ≡ p
+  pub set : (cell_at m (cell_index p.cell)).cpus ≡ cell_set
+  pub state : state_at m (cell_index (cell_for e p.cell m.waiting)) ≡ word
+  pub locked : asks_create e ≡ true → closed ≡ some_cell_locked m
+  pub found : asks_create e ≡ true → seen ≡ found_live bytes m

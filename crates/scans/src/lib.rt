@@ -2,10 +2,10 @@
 // its cell.
 ghost use Rattle.std.specs.Prelude.{◌≡◌, not, ◌&&◌, ltb, eqb, set as set_at};
 ghost use Rattle.machine_state.specs.declared.Machine.{Machine};
-ghost use Rattle.machine_state.specs.Machine.{cpuIn, maxCells};
-ghost use Rattle.rules.specs.State.{rootId, isFinal};
-ghost use Rattle.rules.specs.Effects.{failCpu, allFailed};
-ghost use Rattle.scans.specs.Scan.{scanOf, Scans};
+ghost use Rattle.machine_state.specs.Machine.{cpu_in, max_cells};
+ghost use Rattle.rules.specs.State.{root_id, is_final};
+ghost use Rattle.rules.specs.Effects.{fail_cpu, all_failed};
+ghost use Rattle.scans.specs.Scan.{scan_of, Scans};
 
 use live_cells::Found;
 use machine_state::{CELL_CREATE, Cpu, Event, MAX_CELLS, MAX_CPUS};
@@ -14,7 +14,7 @@ use system_record::SystemConfig;
 // Whether the state of cell `id`, which is `state`, becomes failed once CPU `cpu` is; `set` are the
 // cell's CPUs.
 fn cell_fails(set: u64, id: usize, state: u32, cpus: [Cpu; MAX_CPUS], cpu: usize) -> bool
-    ensures { result ≡ (not (eqb id rootId) && ltb id maxCells && allFailed «set» (set_at cpus cpu (failCpu (cpuIn cpus cpu))) && not (isFinal state)) }
+    ensures { result ≡ (not (eqb id root_id) && ltb id max_cells && all_failed «set» (set_at cpus cpu (fail_cpu (cpu_in cpus cpu))) && not (is_final state)) }
 {
     !(id == 0) & (id < MAX_CELLS) & cpu_table::all_failed(set, cpu, cpus) & !comms::is_final(state)
 }
@@ -38,7 +38,7 @@ pub fn scan(
     e: Event,
     record: &[u8],
 ) -> i32
-    ensures { (m : Machine) → Scans system pool_used live_ids root_cpus cpus p «set» state locked found e «record».now m → result ≡ scanOf e «record».now m }
+    ensures { (m : Machine) → Scans system pool_used live_ids root_cpus cpus p «set» state locked found e «record».now m → result ≡ scan_of e «record».now m }
 {
     match e {
         Event::Call(cpu, code, _, _) => {

@@ -8,14 +8,14 @@ use lib.IntN.{pos}
 use Rattle.base.specs.Rules.{EINVAL, ERANGE, ENOMEM}
 use Rattle.base.proofs.Rules.{rule-holds, rule-passed, no-rule}
 use Rattle.fields.specs.Fields.{u16}
-use Rattle.region_table.specs.Tables.{maxBootRegions, regionsOf}
+use Rattle.region_table.specs.Tables.{max_boot_regions, regions_of}
 use Rattle.region_table.proofs.Laws.{table-regions}
 use Rattle.system_record.specs.declared.SystemConfig.{SystemConfig}
-use Rattle.system_record.specs.SystemRecord.{systemOf, systemForm, bootRegions, systemValid, outOfRange, overdrawn, bootAnswer}
+use Rattle.system_record.specs.SystemRecord.{system_of, system_form, boot_regions, system_valid, out_of_range, overdrawn, boot_answer}
 
-pub record-regions : (r : List ℕ) → bootRegions (systemOf r) ≡ regionsOf 96 (min (u16 6 r) maxBootRegions) r
-unfolding systemOf
-record-regions r = table-regions 96 r maxBootRegions (u16 6 r)
+pub record-regions : (r : List ℕ) → boot_regions (system_of r) ≡ regions_of 96 (min (u16 6 r) max_boot_regions) r
+unfolding system_of
+record-regions r = table-regions 96 r max_boot_regions (u16 6 r)
 
 -- what a test found is so of what it tests
 pub told : {found is t : Bool} → found ≡ is → found ≡ t → is ≡ t
@@ -23,24 +23,24 @@ told e f = sym e ∙ f
 
 -- boot's table at a record with the values `c`: the first rule that holds answers
 abbrev pub broken : List ℕ → Bool
-broken r = not (systemForm r && systemValid (systemOf r))
+broken r = not (system_form r && system_valid (system_of r))
 
-pub answer-broken : (r : List ℕ) → broken r ≡ true → EINVAL ≡ bootAnswer r
-unfolding bootAnswer
+pub answer-broken : (r : List ℕ) → broken r ≡ true → EINVAL ≡ boot_answer r
+unfolding boot_answer
 answer-broken r e = rule-holds _ _ _ e
 
-module _ (r : List ℕ) (c : SystemConfig) (values : c ≡ systemOf r) (kept : broken r ≡ false) where
-  pub answer-range : outOfRange c ≡ true → ERANGE ≡ bootAnswer r
-  unfolding bootAnswer
-  answer-range e = rule-holds _ _ _ (told (ap outOfRange values) e) ∙ rule-passed _ _ _ kept
+module _ (r : List ℕ) (c : SystemConfig) (values : c ≡ system_of r) (kept : broken r ≡ false) where
+  pub answer-range : out_of_range c ≡ true → ERANGE ≡ boot_answer r
+  unfolding boot_answer
+  answer-range e = rule-holds _ _ _ (told (ap out_of_range values) e) ∙ rule-passed _ _ _ kept
 
-  module _ (inside : outOfRange c ≡ false) where
-    pub answer-overdrawn : overdrawn c ≡ true → ENOMEM ≡ bootAnswer r
-    unfolding bootAnswer
+  module _ (inside : out_of_range c ≡ false) where
+    pub answer-overdrawn : overdrawn c ≡ true → ENOMEM ≡ boot_answer r
+    unfolding boot_answer
     answer-overdrawn e =
-        rule-holds _ _ _ (told (ap overdrawn values) e) ∙ rule-passed _ _ _ (told (ap outOfRange values) inside) ∙ rule-passed _ _ _ kept
+        rule-holds _ _ _ (told (ap overdrawn values) e) ∙ rule-passed _ _ _ (told (ap out_of_range values) inside) ∙ rule-passed _ _ _ kept
 
-    pub answer-accepted : overdrawn c ≡ false → pos 0 ≡ bootAnswer r
-    unfolding bootAnswer
+    pub answer-accepted : overdrawn c ≡ false → pos 0 ≡ boot_answer r
+    unfolding boot_answer
     answer-accepted e =
-        no-rule _ ∙ rule-passed _ _ _ (told (ap overdrawn values) e) ∙ rule-passed _ _ _ (told (ap outOfRange values) inside) ∙ rule-passed _ _ _ kept
+        no-rule _ ∙ rule-passed _ _ _ (told (ap overdrawn values) e) ∙ rule-passed _ _ _ (told (ap out_of_range values) inside) ∙ rule-passed _ _ _ kept

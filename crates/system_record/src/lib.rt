@@ -1,9 +1,9 @@
 // The system record: its values, its rules, and boot's answer.
 ghost use Rattle.std.specs.Prelude.{◌≡◌, ◌||◌, min};
 ghost use Rattle.base.specs.Lists.{all};
-ghost use Rattle.fields.specs.Fields.{u16 as u16-of};
-ghost use Rattle.region_table.specs.Tables.{maxBootRegions};
-ghost use Rattle.system_record.specs.SystemRecord.{systemOf, systemForm, bootRegions, bootRegionOk, systemValid, outOfRange, overdrawn, tooMany, bootAnswer, readSystem};
+ghost use Rattle.fields.specs.Fields.{u16 as u16_of};
+ghost use Rattle.region_table.specs.Tables.{max_boot_regions};
+ghost use Rattle.system_record.specs.SystemRecord.{system_of, system_form, boot_regions, boot_region_ok, system_valid, out_of_range, overdrawn, too_many, boot_answer, read_system};
 
 use base::{EINVAL, ENOMEM, ERANGE};
 use region_table::MAX_BOOT_REGIONS;
@@ -46,7 +46,7 @@ pub struct SystemRead {
 
 // The values of a record, whatever its bytes.
 pub fn system_of(s: &[u8]) -> SystemConfig
-    ensures { result ≡ systemOf s.now }
+    ensures { result ≡ system_of s.now }
 {
     let count = fields::u16_at(s, 6) as usize;
     let name = fields::name_of(fields::part(s, 8, 32));
@@ -78,7 +78,7 @@ pub fn system_of(s: &[u8]) -> SystemConfig
 
 // Whether the record has the form of a system record.
 fn system_form(s: &[u8]) -> bool
-    ensures { result ≡ systemForm s.now }
+    ensures { result ≡ system_form s.now }
 {
     let n = fields::u16_at(s, 6) as usize;
     fields::has_mark(s, b"TSS")
@@ -93,7 +93,7 @@ fn system_form(s: &[u8]) -> bool
 
 // Whether a boot region keeps its rules beside the given hypervisor memory.
 pub fn boot_region_ok(hypervisor: Range, r: MemRegion) -> bool
-    ensures { result ≡ bootRegionOk hypervisor.start hypervisor.size r }
+    ensures { result ≡ boot_region_ok hypervisor.start hypervisor.size r }
 {
     regions::is_placed(r)
         & regions::flags_ok(r)
@@ -103,7 +103,7 @@ pub fn boot_region_ok(hypervisor: Range, r: MemRegion) -> bool
 
 // How many regions of the record there are: those that its count names, as many as a table holds.
 fn region_count(s: &[u8]) -> u16
-    ensures { result ≡ min (u16-of 6 s.now) maxBootRegions }
+    ensures { result ≡ min (u16_of 6 s.now) max_boot_regions }
 {
     let n = fields::u16_at(s, 6);
     if (n as usize) < MAX_BOOT_REGIONS {
@@ -115,7 +115,7 @@ fn region_count(s: &[u8]) -> u16
 
 // The record's regions in a table.
 fn boot_table(s: &[u8]) -> [MemRegion; MAX_BOOT_REGIONS]
-    ensures { result ≡ (systemOf s.now).regions }
+    ensures { result ≡ (system_of s.now).regions }
 {
     let n = region_count(s) as usize;
     let mut table = [region_table::no_region(); MAX_BOOT_REGIONS];
@@ -129,7 +129,7 @@ fn boot_table(s: &[u8]) -> [MemRegion; MAX_BOOT_REGIONS]
 
 // Whether the record's regions each keep a boot region's rules.
 fn boot_regions_ok(hypervisor: Range, s: &[u8]) -> bool
-    ensures { result ≡ all (bootRegionOk hypervisor.start hypervisor.size) (bootRegions (systemOf s.now)) }
+    ensures { result ≡ all (boot_region_ok hypervisor.start hypervisor.size) (boot_regions (system_of s.now)) }
 {
     let n = region_count(s);
     let mut ok = true;
@@ -143,7 +143,7 @@ fn boot_regions_ok(hypervisor: Range, s: &[u8]) -> bool
 
 // Whether the record's values keep every rule that answers -22.
 pub fn system_valid(s: &[u8]) -> bool
-    ensures { result ≡ systemValid (systemOf s.now) }
+    ensures { result ≡ system_valid (system_of s.now) }
 {
     let name = fields::name_of(fields::part(s, 8, 32));
     let hypervisor = Range {
@@ -158,14 +158,14 @@ pub fn system_valid(s: &[u8]) -> bool
 
 // Whether a pool number is past 2^31 - 1.
 fn too_many(pool: Pool) -> bool
-    ensures { result ≡ (tooMany pool.pages || tooMany pool.used) }
+    ensures { result ≡ (too_many pool.pages || too_many pool.used) }
 {
     (0x7fff_ffff < pool.pages) | (0x7fff_ffff < pool.used)
 }
 
 // Whether a CPU or pool number is out of the supported range.
 pub fn out_of_range(c: SystemConfig) -> bool
-    ensures { result ≡ outOfRange c }
+    ensures { result ≡ out_of_range c }
 {
     let possible = c.possible as u64;
     let pool = c.pool;
@@ -188,8 +188,8 @@ pub fn is_overdrawn(c: SystemConfig) -> bool
 
 // Boot's answer to a record that holds these values.
 fn boot_answer(s: &[u8], c: SystemConfig) -> i32
-    requires { c ≡ systemOf s.now }
-    ensures { result ≡ bootAnswer s.now }
+    requires { c ≡ system_of s.now }
+    ensures { result ≡ boot_answer s.now }
 {
     if !(system_form(s) & system_valid(s)) {
         return EINVAL;
@@ -205,7 +205,7 @@ fn boot_answer(s: &[u8], c: SystemConfig) -> i32
 
 // Reads a system record: boot's answer, 0 for an accepted start, and the values as they stand.
 pub fn read_system(s: &[u8]) -> SystemRead
-    ensures { result ≡ readSystem s.now }
+    ensures { result ≡ read_system s.now }
 {
     let config = system_of(s);
     let code = boot_answer(s, config);

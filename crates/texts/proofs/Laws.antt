@@ -14,7 +14,7 @@ use lib.ListN.{length, get_or, take, drop, set, length-append}
 use lib.Seq.{sets, length-sets, sets-eq, take-suc}
 use Rattle.machine_state.specs.declared.Answer.{Answer}
 use Rattle.machine_state.specs.declared.Answer.TheVariants.{Code, Wait, Done, Off, Bad, Stopped, Held, Denied, Idle}
-use Rattle.texts.specs.Texts.{decimalIn, decimal, signed, answerText, answerLine, bootLine, putLine, putCount}
+use Rattle.texts.specs.Texts.{decimal_in, decimal, signed, answer_text, answer_line, boot_line, put_line, put_count}
 use Rattle.texts.specs.Put.{Put}
 
 -- a text written behind another is the two written at once
@@ -46,34 +46,34 @@ copy-turn text i {at = at} h p = rw (← add_assoc at i 1, add-one i, take-suc t
 
 -- a line at the start of a buffer that has room for it
 pub line-put : (line : List ℕ) {l m : List ℕ} {r : ℕ} → length line ≤ 32 → 32 ≤ length l → Put 0 line l r m
-    → (r ≡ putCount 32 line l) × (m ≡ putLine 32 line l)
-unfolding putLine putCount
+    → (r ≡ put_count 32 line l) × (m ≡ put_line 32 line l)
+unfolding put_line put_count
 line-put line {l} s h p =
-    rw (le-ltb (length l) 32 h, putLine, putCount)
+    rw (le-ltb (length l) 32 h, put_line, put_count)
     (p.place ∙ zero-add (length line), p.bytes ∙ sets-eq line l 0 (omega arith) ∙ ap (λ (n : ℕ). line ++ drop n l) (zero-add (length line)))
 
 -- a buffer that has not
-pub line_kept : (line l : List ℕ) → length l < 32 → (0 ≡ putCount 32 line l) × (l ≡ putLine 32 line l)
-unfolding putLine putCount
-line_kept line l h = rw (lt-ltb (length l) 32 h, putLine, putCount) (refl, refl)
+pub line_kept : (line l : List ℕ) → length l < 32 → (0 ≡ put_count 32 line l) × (l ≡ put_line 32 line l)
+unfolding put_line put_count
+line_kept line l h = rw (lt-ltb (length l) 32 h, put_line, put_count) (refl, refl)
 
 -- one digit, and one digit more
 digit : (n : ℕ) → n < 10 → decimal n ≡ (0x30 + n) ∷ []
-unfolding decimalIn
-digit n h = rw (lt-ltb n 10 h, decimalIn)
+unfolding decimal_in
+digit n h = rw (lt-ltb n 10 h, decimal_in)
 
-enough : (k n : ℕ) → n < 10 ^ suc k → decimalIn (suc k) n ≡ decimalIn (suc (suc k)) n
-unfolding decimalIn
-enough zero n h = rw (lt-ltb n 10 h, decimalIn)
+enough : (k n : ℕ) → n < 10 ^ suc k → decimal_in (suc k) n ≡ decimal_in (suc (suc k)) n
+unfolding decimal_in
+enough zero n h = rw (lt-ltb n 10 h, decimal_in)
 enough (suc k) n h =
     ap (λ (l : List ℕ). elim (ltb n 10) as (λ x. List ℕ) [ true ↦ (0x30 + n) ∷ [] | false ↦ l ++ ((0x30 + n % 10) ∷ []) ])
     (enough k (n / 10) (omega arith))
 
 digits : (n : ℕ) → 10 ≤ n → n < 2 ^ 64 → decimal n ≡ decimal (n / 10) ++ ((0x30 + n % 10) ∷ [])
-unfolding decimalIn
+unfolding decimal_in
 digits n h f =
-    let e : decimalIn 19 (n / 10) ≡ decimal (n / 10) = enough 18 (n / 10) (omega arith) in
-    rw (← e, le-ltb n 10 h, decimalIn)
+    let e : decimal_in 19 (n / 10) ≡ decimal (n / 10) = enough 18 (n / 10) (omega arith) in
+    rw (← e, le-ltb n 10 h, decimal_in)
 
 pub put-digit : (n at : ℕ) (l : List ℕ) → n < 10 → Put at (decimal n) l (at + 1) (set l at (0x30 + n))
 put-digit n at l h = rw (digit n h) (record { place = refl; bytes = refl })
@@ -83,13 +83,13 @@ pub put-digits : (n : ℕ) {at r : ℕ} {l m : List ℕ} → 10 ≤ n → n < 2 
 put-digits n h f p = rw (digits n h f) (put_byte (decimal (n / 10)) (0x30 + n % 10) p)
 
 -- how long the texts are
-short-in : (k n : ℕ) → length (decimalIn k n) ≤ k
-unfolding decimalIn
+short-in : (k n : ℕ) → length (decimal_in k n) ≤ k
+unfolding decimal_in
 short-in zero n = omega arith
 short-in (suc k) n = by-test (ltb n 10) (short-in k (n / 10))
   where
-    by-test : (t : Bool) → length (decimalIn k (n / 10)) ≤ k
-        → length {A = ℕ} (elim t as (λ x. List ℕ) [ true ↦ (0x30 + n) ∷ [] | false ↦ decimalIn k (n / 10) ++ ((0x30 + n % 10) ∷ []) ]) ≤ suc k
+    by-test : (t : Bool) → length (decimal_in k (n / 10)) ≤ k
+        → length {A = ℕ} (elim t as (λ x. List ℕ) [ true ↦ (0x30 + n) ∷ [] | false ↦ decimal_in k (n / 10) ++ ((0x30 + n % 10) ∷ []) ]) ≤ suc k
     by-test true h = omega arith
     by-test false h = rw length-append (omega arith)
 
@@ -108,8 +108,8 @@ signed-short (pos n) = omega (arith, decimal-short n)
 signed-short (negsuc n) = omega (arith, decimal-short (suc n))
 
 -- every line fits
-pub answer-short : (a : Answer) → length (answerLine a) ≤ 32
-unfolding answerText
+pub answer-short : (a : Answer) → length (answer_line a) ≤ 32
+unfolding answer_text
 answer-short (Code code) = simp length-append (omega (arith, signed-short code))
 answer-short (Wait cell) = simp length-append (omega (arith, decimal-short cell))
 answer-short Done = omega arith
@@ -120,7 +120,7 @@ answer-short Held = omega arith
 answer-short Denied = omega arith
 answer-short Idle = omega arith
 
-pub boot-short : (code : ℤ) → length (bootLine code) ≤ 32
+pub boot-short : (code : ℤ) → length (boot_line code) ≤ 32
 boot-short code = simp length-append (omega (arith, signed-short code))
 
 -- a number below zero and any other, its size written in decimals; `y` is the number as it is read from its bits
@@ -144,15 +144,15 @@ pub put-from : {y z : ℤ} {n at r : ℕ} {l m : List ℕ} → y ≡ z → lt_z 
 put-from {y} b e s p = rw (← b, signed-from y e, ← s) p
 
 -- an answer's line, written for the answer `b` that `a` is
-pub answer-put : {a b : Answer} {l m : List ℕ} {r : ℕ} → a ≡ b → 32 ≤ length l → Put 0 (answerLine b) l r m
-    → (r ≡ putCount 32 (answerLine a) l) × (m ≡ putLine 32 (answerLine a) l)
-answer-put {a} e h p = line-put (answerLine a) (answer-short a) h (rw e p)
+pub answer-put : {a b : Answer} {l m : List ℕ} {r : ℕ} → a ≡ b → 32 ≤ length l → Put 0 (answer_line b) l r m
+    → (r ≡ put_count 32 (answer_line a) l) × (m ≡ put_line 32 (answer_line a) l)
+answer-put {a} e h p = line-put (answer_line a) (answer-short a) h (rw e p)
 
 -- what was put lies inside the buffer
-pub count_fits : (line l : List ℕ) → length line ≤ 32 → putCount 32 line l ≤ length (putLine 32 line l)
-unfolding putCount putLine
+pub count_fits : (line l : List ℕ) → length line ≤ 32 → put_count 32 line l ≤ length (put_line 32 line l)
+unfolding put_count put_line
 count_fits line l h = by-room (ltb (length l) 32) refl
   where
-    by-room : (t : Bool) → ltb (length l) 32 ≡ t → putCount 32 line l ≤ length (putLine 32 line l)
-    by-room true e = rw (e, putCount, putLine) zero-le
-    by-room false e = rw (e, putCount, putLine) (let n = length-append line (drop (length line) l) in omega arith)
+    by-room : (t : Bool) → ltb (length l) 32 ≡ t → put_count 32 line l ≤ length (put_line 32 line l)
+    by-room true e = rw (e, put_count, put_line) zero-le
+    by-room false e = rw (e, put_count, put_line) (let n = length-append line (drop (length line) l) in omega arith)

@@ -1,6 +1,6 @@
 // The lines that the replay program prints.
 ghost use Rattle.std.specs.Prelude.{◌≡◌, [], ◌∷◌, ◌++◌, ◌+◌, ◌≤◌, length, nat_abs};
-ghost use Rattle.texts.specs.Texts.{decimal, signed, waitText, answerLine, bootLine, putLine, putCount};
+ghost use Rattle.texts.specs.Texts.{decimal, signed, wait_text, answer_line, boot_line, put_line, put_count};
 ghost use Rattle.texts.specs.Put.{Put};
 
 use machine_state::Answer;
@@ -73,7 +73,7 @@ fn put_code(word: &[u8], code: i32, out: &mut [u8]) -> usize
 // The same for `wait` and a cell.
 fn put_wait(cell: usize, out: &mut [u8]) -> usize
     requires { 32 ≤ length out.old }
-    ensures { Put 0 (waitText ++ decimal cell ++ (0x0a ∷ [])) out.old result out.new }
+    ensures { Put 0 (wait_text ++ decimal cell ++ (0x0a ∷ [])) out.old result out.new }
 {
     let at = put(b"wait ", 0, out);
     let end = put_decimal(cell as u64, at, out);
@@ -84,8 +84,8 @@ fn put_wait(cell: usize, out: &mut [u8]) -> usize
 // Writes an answer's line to the start of `out` and gives its length; where `out` has less room
 // than a line may need, nothing is written and the length is 0.
 pub fn put_answer(a: Answer, out: &mut [u8]) -> usize
-    ensures value { result ≡ putCount 32 (answerLine a) out.old }
-    ensures out_after { out.new ≡ putLine 32 (answerLine a) out.old }
+    ensures value { result ≡ put_count 32 (answer_line a) out.old }
+    ensures out_after { out.new ≡ put_line 32 (answer_line a) out.old }
 {
     if out.len() < MAX_TEXT {
         return 0;
@@ -105,8 +105,8 @@ pub fn put_answer(a: Answer, out: &mut [u8]) -> usize
 
 // The same for boot's line.
 pub fn put_boot(code: i32, out: &mut [u8]) -> usize
-    ensures value { result ≡ putCount 32 (bootLine code) out.old }
-    ensures out_after { out.new ≡ putLine 32 (bootLine code) out.old }
+    ensures value { result ≡ put_count 32 (boot_line code) out.old }
+    ensures out_after { out.new ≡ put_line 32 (boot_line code) out.old }
 {
     if out.len() < MAX_TEXT {
         return 0;

@@ -1,9 +1,9 @@
 // Which events are obeyed, and the word that says why the others are not.
 ghost use Rattle.std.specs.Prelude.{◌≡◌};
-ghost use Rattle.rules.specs.State.{waits as waits-of};
-ghost use Rattle.rules.specs.Unobeyed.{isOn};
-ghost use Rattle.comms.specs.Comms.{Index, cellIndex};
-ghost use Rattle.unobeyed.specs.Admission.{cpuFor, askedFor, waitedCell, cellFor, AdmitsOwn, AdmitsOn, Admits, deniedFor};
+ghost use Rattle.rules.specs.State.{waits as waits_of};
+ghost use Rattle.rules.specs.Unobeyed.{is_on};
+ghost use Rattle.comms.specs.Comms.{Index, cell_index};
+ghost use Rattle.unobeyed.specs.Admission.{cpu_for, asked_for, waited_cell, cell_for, AdmitsOwn, AdmitsOn, Admits, denied_for};
 
 use machine_state::{Answer, CommRegion, Cpu, Event, MAX_CELLS, Power, Waiting};
 
@@ -16,7 +16,7 @@ pub enum Admission {
 
 // Whether the machine is on.
 fn is_on(power: Power) -> bool
-    ensures { result ≡ isOn power }
+    ensures { result ≡ is_on power }
 {
     match power {
         Power::Unbooted => false,
@@ -27,7 +27,7 @@ fn is_on(power: Power) -> bool
 
 // Whether a call waits.
 fn waits(waiting: Waiting) -> bool
-    ensures { result ≡ waits-of waiting }
+    ensures { result ≡ waits_of waiting }
 {
     match waiting {
         Waiting::NoCall => false,
@@ -37,7 +37,7 @@ fn waits(waiting: Waiting) -> bool
 
 // The place of the event's CPU.
 pub fn cpu_for(e: Event) -> usize
-    ensures { Index (cpuFor e) 64 result }
+    ensures { Index (cpu_for e) 64 result }
 {
     match e {
         Event::Call(cpu, _, _, _) => cpu_table::cpu_index(cpu),
@@ -51,7 +51,7 @@ pub fn cpu_for(e: Event) -> usize
 
 // The place of the CPU that CPU Get Info asks about.
 pub fn asked_for(e: Event) -> usize
-    ensures { Index (askedFor e) 64 result }
+    ensures { Index (asked_for e) 64 result }
 {
     match e {
         Event::Call(_, _, a1, _) => cpu_table::cpu_index(a1),
@@ -65,7 +65,7 @@ pub fn asked_for(e: Event) -> usize
 
 // The cell that the waiting call waits for.
 fn waited_cell(waiting: Waiting) -> usize
-    ensures { result ≡ waitedCell waiting }
+    ensures { result ≡ waited_cell waiting }
 {
     match waiting {
         Waiting::NoCall => 0,
@@ -75,7 +75,7 @@ fn waited_cell(waiting: Waiting) -> usize
 
 // The cell whose words matter to an event on a CPU of cell `cell`.
 fn cell_for(e: Event, cell: usize, waiting: Waiting) -> usize
-    ensures { result ≡ cellFor e cell waiting }
+    ensures { result ≡ cell_for e cell waiting }
 {
     match e {
         Event::Call(_, _, a1, _) => a1 as usize,
@@ -89,7 +89,7 @@ fn cell_for(e: Event, cell: usize, waiting: Waiting) -> usize
 
 // The place of their words.
 pub fn words_for(e: Event, cell: usize, waiting: Waiting) -> usize
-    ensures { Index (cellIndex (cellFor e cell waiting)) 16 result }
+    ensures { Index (cell_index (cell_for e cell waiting)) 16 result }
 {
     comms::cell_index(cell_for(e, cell, waiting))
 }
@@ -133,7 +133,7 @@ fn admit_on(
 
 // Whether a store to a word by a CPU of cell `cell`, whose words are `w`, is denied.
 fn store_denied(w: CommRegion, cell: usize, word: u64) -> bool
-    ensures { result ≡ deniedFor w cell word }
+    ensures { result ≡ denied_for w cell word }
 {
     (cell == 0)
         | !(cell < MAX_CELLS)

@@ -8,72 +8,72 @@ use native.Mathlib.Omega.{arith}
 use borrow.Author.Tests.{leb-false, ne_eqb}
 use lib.Dec.{leb, eqb}
 use Rattle.machine_state.specs.declared.Machine.{Machine}
-use Rattle.rules.specs.State.{no_id, limitAt}
+use Rattle.rules.specs.State.{no_id, limit_at}
 use Rattle.rules.specs.Step.{step}
-use Rattle.rules.specs.Asking.{isLastPoll, pollsAfter}
-use Rattle.rules.specs.Account.{Account, Place, Asks, Tells, Ended, stays, staysWith, waitedAt}
-use Rattle.rules.specs.Run.{Line, isPoll}
-use Rattle.waiting.specs.Steps.{Moment, account, accountEnded, next, momentAfter, shows, waitedLimit, pollsIn}
-use Rattle.waiting.specs.Demand3.{inW, sumBelow}
+use Rattle.rules.specs.Asking.{is_last_poll, polls_after}
+use Rattle.rules.specs.Account.{Account, Place, Asks, Tells, Ended, stays, stays_with, waited_at}
+use Rattle.rules.specs.Run.{Line, is_poll}
+use Rattle.waiting.specs.Steps.{Moment, account, account_ended, next, moment_after, shows, waited_limit, polls_in}
+use Rattle.waiting.specs.Demand3.{in_w, sum_below}
 use Rattle.waiting.proofs.Shown.{limit-shown, live-lt}
 use Rattle.waiting.proofs.Machines.{NoneWoken, and-fst, and-snd, or_snd}
 use Rattle.waiting.proofs.Moves.{Heeds, AtPlace}
-use Rattle.waiting.proofs.Went.{toCome}
+use Rattle.waiting.proofs.Went.{to_come}
 use Rattle.waiting.proofs.Follows.{may-live}
 use Rattle.waiting.proofs.Runs.{ended-after}
-use Rattle.waiting.proofs.Progress.{hears, countAt}
+use Rattle.waiting.proofs.Progress.{hears, count_at}
 use Rattle.waiting.proofs.Messages.{Sent, InCall, Does, nothing, polls, ends, moves, does, in-w}
 use Rattle.waiting.proofs.Counts.{worth, sum_less}
 
 -- ---- the polls, one event on
 
 module _ (l : Line) (ls : List Line) where
-  polls-passed : isPoll l.event ≡ false → pollsIn (l ∷ ls) ≡ pollsIn ls
-  unfolding pollsIn
-  polls-passed p = rw (p, pollsIn)
+  polls-passed : is_poll l.event ≡ false → polls_in (l ∷ ls) ≡ polls_in ls
+  unfolding polls_in
+  polls-passed p = rw (p, polls_in)
 
-  polls-more : isPoll l.event ≡ true → pollsIn (l ∷ ls) ≡ suc (pollsIn ls)
-  unfolding pollsIn
-  polls-more p = rw (p, pollsIn)
+  polls-more : is_poll l.event ≡ true → polls_in (l ∷ ls) ≡ suc (polls_in ls)
+  unfolding polls_in
+  polls-more p = rw (p, polls_in)
 
 -- the cell waited for
 abbrev pub waited : Moment → ℕ
-waited now = waitedAt (account now).place
+waited now = waited_at (account now).place
 
 -- the account a began the call, which met the machine `met`
 module _ (a : Account) (met : Machine) where
   -- the cells of W that are still to come at a place, and how many polls are due to them
   unfoldable pub left : Place → ℕ → Bool
-  left place id = inW a met id && toCome a.kind a.target place id
+  left place id = in_w a met id && to_come a.kind a.target place id
 
   abbrev pub ahead : (ℕ → ℕ) → Place → ℕ
-  ahead due place = sumBelow no_id (worth (left place) due)
+  ahead due place = sum_below no_id (worth (left place) due)
 
   -- a message leaves one less
-  pub left_less : (due : ℕ → ℕ) (m : Machine) (before place : Place) → NoneWoken met m → Sent m a.kind a.target (toCome a.kind a.target before) place
-      → due (waitedAt place) + ahead due place ≤ ahead due before
+  pub left_less : (due : ℕ → ℕ) (m : Machine) (before place : Place) → NoneWoken met m → Sent m a.kind a.target (to_come a.kind a.target before) place
+      → due (waited_at place) + ahead due place ≤ ahead due before
   unfolding left
   left_less due m before place w s =
-      sum_less no_id (left place) (left before) due (waitedAt place)
-      (λ id e. ap₂ (λ (x y : Bool). x && y) (and-fst (inW a met id) _ e) (s.rest id (and-snd (inW a met id) _ e)))
-      (live-lt m (waitedAt place) (may-live m (waitedAt place) s.may))
+      sum_less no_id (left place) (left before) due (waited_at place)
+      (λ id e. ap₂ (λ (x y : Bool). x && y) (and-fst (in_w a met id) _ e) (s.rest id (and-snd (in_w a met id) _ e)))
+      (live-lt m (waited_at place) (may-live m (waited_at place) s.may))
       (ap₂ (λ (x y : Bool). x && y) (in-w a met m place _ w s) s.came)
-      (ap (λ (b : Bool). inW a met (waitedAt place) && b) s.out ∙ and-false (inW a met (waitedAt place)))
+      (ap (λ (b : Bool). in_w a met (waited_at place) && b) s.out ∙ and-false (in_w a met (waited_at place)))
 
   -- ---- the limit, and the count of polls
 
   -- the limit of the cell waited for
   abbrev pub limit : Moment → ℕ
-  limit now = limitAt met (waited now)
+  limit now = limit_at met (waited now)
 
-  heeds-here : (m : Machine) (target : ℕ) (place : Place) (reply : ℕ) → AtPlace m target place reply → Heeds m (waitedAt place) reply
-  unfolding AtPlace waitedAt
+  heeds-here : (m : Machine) (target : ℕ) (place : Place) (reply : ℕ) → AtPlace m target place reply → Heeds m (waited_at place) reply
+  unfolding AtPlace waited_at
   heeds-here m target (Asks c) reply w = w
   heeds-here m target (Tells c) reply w = w.0
   heeds-here m target (Ended code) reply w = absurd w
 
   -- it is shown as it was where the call began
-  pub limit_is : (now : Moment) → InCall a met now → waitedLimit now ≡ limit now
+  pub limit_is : (now : Moment) → InCall a met now → waited_limit now ≡ limit now
   limit_is now c = limit-shown now.machine (waited now) here.low here.alive ∙ c.along.limit
     where
       here : Heeds now.machine (waited now) now.watch.reply
@@ -85,29 +85,29 @@ module _ (a : Account) (met : Machine) where
 
   same_count : (spent : ℕ) (now after : Moment) → account after ≡ stays (account now) → Counted spent now → Counted spent after
   same_count spent now after e k low =
-      ap (λ (x : Account). x.polls) e ∙ k (subst (λ (x : Account). 1 ≤ limitAt met (waitedAt x.place)) e low)
+      ap (λ (x : Account). x.polls) e ∙ k (subst (λ (x : Account). 1 ≤ limit_at met (waited_at x.place)) e low)
 
-  more-counted : (spent : ℕ) (now after : Moment) → InCall a met now → account after ≡ staysWith (countAt now) (account now) → Counted spent now
+  more-counted : (spent : ℕ) (now after : Moment) → InCall a met now → account after ≡ stays_with (count_at now) (account now) → Counted spent now
       → Counted (suc spent) after
-  unfolding pollsAfter
+  unfolding polls_after
   more-counted spent now after c e k low =
-      ap (λ (x : Account). x.polls) e ∙ ap (λ (n : ℕ). pollsAfter n (account now).polls) (limit_is now c)
+      ap (λ (x : Account). x.polls) e ∙ ap (λ (n : ℕ). polls_after n (account now).polls) (limit_is now c)
       ∙ ap (λ (b : Bool). elim b [ true ↦ (account now).polls | false ↦ (account now).polls + 1 ]) (ne_eqb (limit now) 0 (λ q. omega (arith, here, q)))
       ∙ ap (λ (n : ℕ). n + 1) (k here) ∙ omega arith
     where
       here : 1 ≤ limit now
-      here = subst (λ (x : Account). 1 ≤ limitAt met (waitedAt x.place)) e low
+      here = subst (λ (x : Account). 1 ≤ limit_at met (waited_at x.place)) e low
 
   -- the poll that hears nothing is not the limit's: at most as many polls as the limit has
   pub not_last : (spent : ℕ) (now : Moment) → InCall a met now → Counted spent now → hears now ≡ false → 1 ≤ limit now → suc spent < limit now
-  unfolding isLastPoll
+  unfolding is_last_poll
   not_last spent now c k f low = past (leb-false (limit now) ((account now).polls + 1) no_last) (k low)
     where
       past : (account now).polls + 1 < limit now → (account now).polls ≡ spent → suc spent < limit now
       past x y = omega (arith, x, y)
 
-      last : isLastPoll (limit now) (account now).polls ≡ false
-      last = ap (λ (n : ℕ). isLastPoll n (account now).polls) (sym (limit_is now c)) ∙ or_snd (shows now) _ f
+      last : is_last_poll (limit now) (account now).polls ≡ false
+      last = ap (λ (n : ℕ). is_last_poll n (account now).polls) (sym (limit_is now c)) ∙ or_snd (shows now) _ f
 
       no_last : leb (limit now) ((account now).polls + 1) ≡ false
       no_last = sym (ap (λ (b : Bool). not b && leb (limit now) ((account now).polls + 1)) (ne_eqb (limit now) 0 (λ q. omega (arith, low, q)))) ∙ last
@@ -116,19 +116,19 @@ module _ (a : Account) (met : Machine) where
 
   -- what a premise P, with `spent` polls since the message, gives with each event of a list, where `due` polls are due to a cell
   pub record OnTime (due : ℕ → ℕ) (P : ℕ → Moment → List Line → Type 0) : Type 0 where
-    pub passes : (spent : ℕ) (now : Moment) (l : Line) (ls : List Line) → InCall a met now → isPoll l.event ≡ false
+    pub passes : (spent : ℕ) (now : Moment) (l : Line) (ls : List Line) → InCall a met now → is_poll l.event ≡ false
         → account (next step l now) ≡ stays (account now) → P spent now (l ∷ ls) → P spent (next step l now) ls
     pub waits : (spent : ℕ) (now : Moment) (l : Line) (ls : List Line) → InCall a met now → Counted spent now → spent < due (waited now)
-        → isPoll l.event ≡ true → hears now ≡ false → account (next step l now) ≡ staysWith (countAt now) (account now) → P spent now (l ∷ ls)
+        → is_poll l.event ≡ true → hears now ≡ false → account (next step l now) ≡ stays_with (count_at now) (account now) → P spent now (l ∷ ls)
         → (suc spent < due (waited now)) × P (suc spent) (next step l now) ls
     pub moves-on : (spent : ℕ) (now : Moment) (l : Line) (ls : List Line) → InCall a met now → Counted spent now → spent < due (waited now)
-        → isPoll l.event ≡ true → hears now ≡ true → inW a met (waited (next step l now)) ≡ true → P spent now (l ∷ ls)
+        → is_poll l.event ≡ true → hears now ≡ true → in_w a met (waited (next step l now)) ≡ true → P spent now (l ∷ ls)
         → (0 < due (waited (next step l now))) × P 0 (next step l now) ls
 
   pub in-time : (due : ℕ → ℕ) (P : ℕ → Moment → List Line → Type 0) → OnTime due P → (ls : List Line) (now : Moment) (spent : ℕ) → InCall a met now
-      → Counted spent now → spent < due (waited now) → P spent now ls → due (waited now) + ahead due (account now).place ≤ pollsIn ls + spent
-      → accountEnded (momentAfter step now ls) ≡ true
-  unfolding pollsIn momentAfter
+      → Counted spent now → spent < due (waited now) → P spent now ls → due (waited now) + ahead due (account now).place ≤ polls_in ls + spent
+      → account_ended (moment_after step now ls) ≡ true
+  unfolding polls_in moment_after
   in-time due P o [] now spent c k s p q = absurd (omega arith)
   in-time due P o (l ∷ ls) now spent c k s p q = go (does a met now l c) (in-time due P o ls (next step l now))
     where
@@ -137,22 +137,22 @@ module _ (a : Account) (met : Machine) where
 
       Rec : Type 0
       Rec =
-          (spent : ℕ) → InCall a met (next step l now) → Counted spent (next step l now) → spent < due (waitedAt b.place) → P spent (next step l now) ls
-          → due (waitedAt b.place) + ahead due b.place ≤ pollsIn ls + spent → accountEnded (momentAfter step (next step l now) ls) ≡ true
+          (spent : ℕ) → InCall a met (next step l now) → Counted spent (next step l now) → spent < due (waited_at b.place) → P spent (next step l now) ls
+          → due (waited_at b.place) + ahead due b.place ≤ polls_in ls + spent → account_ended (moment_after step (next step l now) ls) ≡ true
 
       -- the account stays where it is, and with it what is due
       dues : Account → ℕ
-      dues x = due (waitedAt x.place) + ahead due x.place
+      dues x = due (waited_at x.place) + ahead due x.place
 
-      go : Does a met now l → Rec → accountEnded (momentAfter step (next step l now) ls) ≡ true
+      go : Does a met now l → Rec → account_ended (moment_after step (next step l now) ls) ≡ true
       go (nothing f e i) r =
-          r spent i (same_count spent now (next step l now) e k) (subst (λ (x : Account). spent < due (waitedAt x.place)) (sym e) s)
+          r spent i (same_count spent now (next step l now) e k) (subst (λ (x : Account). spent < due (waited_at x.place)) (sym e) s)
           (o.passes spent now l ls c f e p)
-          (subst (λ (x : Account). dues x ≤ pollsIn ls + spent) (sym e) (omega (arith, q, polls-passed l ls f)))
+          (subst (λ (x : Account). dues x ≤ polls_in ls + spent) (sym e) (omega (arith, q, polls-passed l ls f)))
       go (polls f h e i) r =
           let on = o.waits spent now l ls c k s f h e p in
-          r (suc spent) i (more-counted spent now (next step l now) c e k) (subst (λ (x : Account). suc spent < due (waitedAt x.place)) (sym e) on.0) on.1
-          (subst (λ (x : Account). dues x ≤ pollsIn ls + suc spent) (sym e) (omega (arith, q, polls-more l ls f)))
+          r (suc spent) i (more-counted spent now (next step l now) c e k) (subst (λ (x : Account). suc spent < due (waited_at x.place)) (sym e) on.0) on.1
+          (subst (λ (x : Account). dues x ≤ polls_in ls + suc spent) (sym e) (omega (arith, q, polls-more l ls f)))
       go (ends f h n e) r = ended-after ls (next step l now) e
       go (moves f h i z n t) r =
           let on = o.moves-on spent now l ls c k s f h (in-w a met now.machine b.place _ c.along.woken t) p in

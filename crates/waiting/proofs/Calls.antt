@@ -9,7 +9,7 @@ use native.Mathlib.Omega.{arith}
 use borrow.Author.Tests.{eqb-true, eqb-false}
 use lib.Dec.{leb, eqb}
 use lib.IntN.{ℤ}
-use Rattle.base.specs.Rules.{firstRule}
+use Rattle.base.specs.Rules.{first_rule}
 use Rattle.base.proofs.Rules.{by-rule, by-none}
 use Rattle.cell_record.specs.declared.CellConfig.{CellConfig}
 use Rattle.cell_record.specs.CellRecord.{cell_of}
@@ -18,18 +18,18 @@ use Rattle.machine_state.specs.declared.CallKind.TheVariants as CallKind
 use Rattle.machine_state.specs.declared.Answer.TheVariants.{Code}
 use Rattle.machine_state.specs.declared.Machine.{Machine}
 use Rattle.machine_state.specs.declared.Stepped.{Stepped}
-use Rattle.rules.specs.State.{cellIds, no_id, first, live, cpuAt, answered}
-use Rattle.rules.specs.Create.{freeId, noRoom}
+use Rattle.rules.specs.State.{cell_ids, no_id, first, live, cpu_at, answered}
+use Rattle.rules.specs.Create.{free_id, no_room}
 use Rattle.rules.specs.Asking.{ask}
-use Rattle.rules.specs.Calls.{callByCode, call}
-use Rattle.rules.specs.Account.{begun, aboutCell, askOn}
-use Rattle.rules.specs.Observer.{shownBy, kindOfCode, target_of}
+use Rattle.rules.specs.Calls.{call_by_code, call}
+use Rattle.rules.specs.Account.{begun, about_cell, ask_on}
+use Rattle.rules.specs.Observer.{shown_by, kind_of_code, target_of}
 use Rattle.rules.proofs.Ids.{Found, None, first-from}
 use Rattle.rules.proofs.Cases.{MayTarget, call-cases}
-use Rattle.rules.specs.Answers.{isWait}
+use Rattle.rules.specs.Answers.{is_wait}
 use Rattle.waiting.proofs.Shown.{free-shown, live-lt}
 use Rattle.waiting.proofs.Machines.{AllWords, or_fst}
-use Rattle.waiting.proofs.Moves.{stepFor, ask-moves}
+use Rattle.waiting.proofs.Moves.{step_for, ask-moves}
 
 -- ---- a call of a CPU that is not root's
 
@@ -43,8 +43,8 @@ ends_with z m = record { code = z; same = refl }
 
 module _ (cpu code a1 a2 : ℕ) (bytes : List ℕ) (m : Machine) where
   -- a code above 4 asks nobody
-  query-ends : leb code 4 ≡ false → Ends m (callByCode cpu code a1 a2 bytes m)
-  unfolding callByCode
+  query-ends : leb code 4 ≡ false → Ends m (call_by_code cpu code a1 a2 bytes m)
+  unfolding call_by_code
   query-ends h =
       by-rule (Ends m) _ _ _ (λ e. low 0 refl e)
       (λ _. by-rule (Ends m) _ _ _ (λ e. low 1 refl e)
@@ -59,53 +59,53 @@ module _ (cpu code a1 a2 : ℕ) (bytes : List ℕ) (m : Machine) where
       low : {s : Stepped} (k : ℕ) → leb k 4 ≡ true → eqb code k ≡ true → Ends m s
       low k l e = absurd (true≢false (sym l ∙ ap (λ (n : ℕ). leb n 4) (sym (eqb-true code k e)) ∙ h))
 
-  pub other-ends : eqb (cpuAt m cpu).cell 0 ≡ false → Ends m (call cpu code a1 a2 bytes m)
+  pub other-ends : eqb (cpu_at m cpu).cell 0 ≡ false → Ends m (call cpu code a1 a2 bytes m)
   unfolding call
   other-ends h =
       by-rule (Ends m) _ _ _ (λ e. ends_with _ m)
       (λ _. by-rule (Ends m) _ _ _ (λ e. ends_with _ m)
       (λ e. by-none (Ends m) _ (query-ends (or_fst (leb code 4) (eqb code 6) (asked e)))))
     where
-      asked : (not (eqb (cpuAt m cpu).cell 0) && (leb code 4 || eqb code 6)) ≡ false → (leb code 4 || eqb code 6) ≡ false
+      asked : (not (eqb (cpu_at m cpu).cell 0) && (leb code 4 || eqb code 6)) ≡ false → (leb code 4 || eqb code 6) ≡ false
       asked e = ap (λ (b : Bool). not b && (leb code 4 || eqb code 6)) (sym h) ∙ e
 
 -- ---- a call that is left waiting
 
 -- it goes as its account begins
 pub record Began (kind : CallKind) (target : ℕ) (new : CellConfig) (m : Machine) (s : Stepped) : Type 0 where
-  pub small : aboutCell kind target (shownBy m) < 16
-  pub moves : s ≡ stepFor (begun kind target (shownBy m)) new m
+  pub small : about_cell kind target (shown_by m) < 16
+  pub moves : s ≡ step_for (begun kind target (shown_by m)) new m
 
 unfoldable Left : CallKind → ℕ → CellConfig → Machine → Stepped → Type 0
-Left kind target new m s = isWait s.answer ≡ true → Began kind target new m s
+Left kind target new m s = is_wait s.answer ≡ true → Began kind target new m s
 
 code-left : (kind : CallKind) (target : ℕ) (new : CellConfig) (m : Machine) (z : ℤ) → Left kind target new m (answered (Code z) m)
-unfolding Left isWait answered
+unfolding Left is_wait answered
 code-left kind target new m z t = absurd (false≢true t)
 
-ask-left : (kind : CallKind) (target about : ℕ) (new : CellConfig) (m : Machine) → AllWords m → about < 16 → aboutCell kind target (shownBy m) ≡ about
+ask-left : (kind : CallKind) (target about : ℕ) (new : CellConfig) (m : Machine) → AllWords m → about < 16 → about_cell kind target (shown_by m) ≡ about
     → Left kind target new m (ask kind about 0 new m)
 unfolding Left begun
 ask-left kind target about new m h l e t = record {
   small = subst (λ (n : ℕ). n < 16) (sym e) l;
-  moves = ask-moves kind about new m h l 0 ∙ ap (λ (n : ℕ). stepFor (askOn kind n 0 (shownBy m)) new m) (sym e);
+  moves = ask-moves kind about new m h l 0 ∙ ap (λ (n : ℕ). step_for (ask_on kind n 0 (shown_by m)) new m) (sym e);
 }
 
-free-lt : (m : Machine) → eqb (freeId m) no_id ≡ false → freeId m < 16
-unfolding freeId
+free-lt : (m : Machine) → eqb (free_id m) no_id ≡ false → free_id m < 16
+unfolding free_id
 free-lt m e = go (first-from (λ id. not (live m id)) 1 15)
   where
     free : ℕ → Bool
     free id = not (live m id)
 
-    go : Found free 1 15 (first free cellIds) ⊎ (None free 1 15 × (first free cellIds ≡ no_id)) → first free cellIds < 16
+    go : Found free 1 15 (first free cell_ids) ⊎ (None free 1 15 × (first free cell_ids ≡ no_id)) → first free cell_ids < 16
     go (inl f) = omega (arith, f.high)
-    go (inr f) = absurd (eqb-false (freeId m) no_id e f.1)
+    go (inr f) = absurd (eqb-false (free_id m) no_id e f.1)
 
 module _ (cpu code a1 a2 : ℕ) (bytes : List ℕ) (m : Machine) (h : AllWords m) where
   -- of the call that a code means, with its kind and target as the observer reads them
   unfoldable LeftAs : ℕ → Stepped → Type 0
-  LeftAs k s = Left (kindOfCode k) (target_of (kindOfCode k) a1) (cell_of bytes) m s
+  LeftAs k s = Left (kind_of_code k) (target_of (kind_of_code k) a1) (cell_of bytes) m s
 
   by_code : (k : ℕ) (s : Stepped) → LeftAs k s → code ≡ k → LeftAs code s
   by_code k s p e = subst (λ (n : ℕ). LeftAs n s) (sym e) p
@@ -114,14 +114,14 @@ module _ (cpu code a1 a2 : ℕ) (bytes : List ℕ) (m : Machine) (h : AllWords m
   target-lt kind may = live-lt m a1 may.lives
 
   left_as : LeftAs code (call cpu code a1 a2 bytes m)
-  unfolding LeftAs kindOfCode target_of firstRule aboutCell noRoom
+  unfolding LeftAs kind_of_code target_of first_rule about_cell no_room
   left_as =
       call-cases (LeftAs code) cpu code a1 a2 bytes m
       (record {
-        at_once = λ z. code-left (kindOfCode code) (target_of (kindOfCode code) a1) new m z;
+        at_once = λ z. code-left (kind_of_code code) (target_of (kind_of_code code) a1) new m z;
         disables = λ e. by_code 0 _ (ask-left CallKind.Disable 0 0 new m h (omega arith) refl) e;
         creates = λ e may. by_code 1 _
-            (ask-left CallKind.Create 0 (freeId m) new m h (free-lt m (or_fst (eqb (freeId m) no_id) _ may.room)) (free-shown m)) e;
+            (ask-left CallKind.Create 0 (free_id m) new m h (free-lt m (or_fst (eqb (free_id m) no_id) _ may.room)) (free-shown m)) e;
         starts = λ e may. by_code 2 _ (ask-left CallKind.Start a1 a1 new m h (target-lt CallKind.Start may) refl) e;
         loads = λ e may. by_code 3 _ (ask-left CallKind.SetLoadable a1 a1 new m h (target-lt CallKind.SetLoadable may) refl) e;
         destroys = λ e may. by_code 4 _ (ask-left CallKind.Destroy a1 a1 new m h (target-lt CallKind.Destroy may) refl) e;
@@ -130,7 +130,7 @@ module _ (cpu code a1 a2 : ℕ) (bytes : List ℕ) (m : Machine) (h : AllWords m
       new : CellConfig
       new = cell_of bytes
 
-  pub call-left : isWait (call cpu code a1 a2 bytes m).answer ≡ true
-      → Began (kindOfCode code) (target_of (kindOfCode code) a1) (cell_of bytes) m (call cpu code a1 a2 bytes m)
+  pub call-left : is_wait (call cpu code a1 a2 bytes m).answer ≡ true
+      → Began (kind_of_code code) (target_of (kind_of_code code) a1) (cell_of bytes) m (call cpu code a1 a2 bytes m)
   unfolding LeftAs Left
   call-left = left_as

@@ -6,17 +6,17 @@ use Prim.Native.Nat.{ℕ, zero, suc, ◌+◌, ◌*◌, ◌≤◌, ◌<◌}
 use native.Mathlib.Nat.{not-suc-le-zero, zero-mul, suc-mul}
 use native.Mathlib.Decide.{ℕ_discrete}
 use native.Mathlib.Omega.{arith}
-use Rattle.cpu_set.specs.CpuSet.{countBelow}
-use Rattle.waiting.specs.Demand3.{sumBelow}
+use Rattle.cpu_set.specs.CpuSet.{count_below}
+use Rattle.waiting.specs.Demand3.{sum_below}
 
 picked : Bool → ℕ
 picked b = elim b [ true ↦ 1 | false ↦ 0 ]
 
-count-suc : (n : ℕ) (p : ℕ → Bool) → countBelow (suc n) p ≡ countBelow n p + picked (p n)
-unfolding countBelow picked
+count-suc : (n : ℕ) (p : ℕ → Bool) → count_below (suc n) p ≡ count_below n p + picked (p n)
+unfolding count_below picked
 count-suc n p = go (p n)
   where
-    go : (b : Bool) → elim b [ true ↦ suc (countBelow n p) | false ↦ countBelow n p ] ≡ countBelow n p + picked b
+    go : (b : Bool) → elim b [ true ↦ suc (count_below n p) | false ↦ count_below n p ] ≡ count_below n p + picked b
     go true = omega arith
     go false = omega arith
 
@@ -43,39 +43,39 @@ worth-le false false w f = omega arith
 worth-less : (a b : Bool) (w : ℕ) → a ≡ false → b ≡ true → w + elim a [ true ↦ w | false ↦ 0 ] ≤ elim b [ true ↦ w | false ↦ 0 ]
 worth-less a b w e g = rw (e, g) (omega arith)
 
-pub sum-le : (n : ℕ) (p q : ℕ → Bool) (f : ℕ → ℕ) → ((k : ℕ) → p k ≡ true → q k ≡ true) → sumBelow n (worth p f) ≤ sumBelow n (worth q f)
-unfolding sumBelow
+pub sum-le : (n : ℕ) (p q : ℕ → Bool) (f : ℕ → ℕ) → ((k : ℕ) → p k ≡ true → q k ≡ true) → sum_below n (worth p f) ≤ sum_below n (worth q f)
+unfolding sum_below
 sum-le zero p q f h = omega arith
 sum-le (suc n) p q f h = omega (arith, sum-le n p q f h, worth-le (p n) (q n) (f n) (h n))
 
 -- one that q picks and p does not
 pub sum_less : (n : ℕ) (p q : ℕ → Bool) (f : ℕ → ℕ) (c : ℕ) → ((k : ℕ) → p k ≡ true → q k ≡ true) → c < n → q c ≡ true → p c ≡ false
-    → f c + sumBelow n (worth p f) ≤ sumBelow n (worth q f)
-unfolding sumBelow
+    → f c + sum_below n (worth p f) ≤ sum_below n (worth q f)
+unfolding sum_below
 sum_less zero p q f c h l e g = absurd (not-suc-le-zero l)
 sum_less (suc n) p q f c h l e g = go (ℕ_discrete c n) (λ k. sum_less n p q f c h k e g)
   where
     here : c ≡ n → f c + worth p f n ≤ worth q f n
     here i = subst (λ (k : ℕ). f c + worth p f k ≤ worth q f k) i (worth-less (p c) (q c) (f c) g e)
 
-    go : Dec (c ≡ n) → (c < n → f c + sumBelow n (worth p f) ≤ sumBelow n (worth q f))
-        → f c + (sumBelow n (worth p f) + worth p f n) ≤ sumBelow n (worth q f) + worth q f n
+    go : Dec (c ≡ n) → (c < n → f c + sum_below n (worth p f) ≤ sum_below n (worth q f))
+        → f c + (sum_below n (worth p f) + worth p f n) ≤ sum_below n (worth q f) + worth q f n
     go (yes i) r = omega (arith, sum-le n p q f h, here i)
     go (no i) r = let l' : c < n = omega arith in omega (arith, r l', worth-le (p n) (q n) (f n) (h n))
 
 -- all worth the same
-pub sum_same : (n : ℕ) (p : ℕ → Bool) (k : ℕ) → sumBelow n (worth p (λ _. k)) ≡ countBelow n p * k
-unfolding sumBelow countBelow
+pub sum_same : (n : ℕ) (p : ℕ → Bool) (k : ℕ) → sum_below n (worth p (λ _. k)) ≡ count_below n p * k
+unfolding sum_below count_below
 sum_same zero p k = sym (zero-mul k)
 sum_same (suc n) p k = ap (λ (x : ℕ). x + worth p (λ _. k) n) (sum_same n p k) ∙ go (p n)
   where
-    go : (b : Bool) → countBelow n p * k + elim b [ true ↦ k | false ↦ 0 ] ≡ elim b [ true ↦ suc (countBelow n p) | false ↦ countBelow n p ] * k
-    go true = sym (suc-mul (countBelow n p) k ∙ omega arith)
+    go : (b : Bool) → count_below n p * k + elim b [ true ↦ k | false ↦ 0 ] ≡ elim b [ true ↦ suc (count_below n p) | false ↦ count_below n p ] * k
+    go true = sym (suc-mul (count_below n p) k ∙ omega arith)
     go false = omega arith
 
-pub count_small : (n : ℕ) (p : ℕ → Bool) → p 0 ≡ false → countBelow (suc n) p ≤ n
-unfolding countBelow picked
-count_small zero p e = rw (e, countBelow) (omega arith)
+pub count_small : (n : ℕ) (p : ℕ → Bool) → p 0 ≡ false → count_below (suc n) p ≤ n
+unfolding count_below picked
+count_small zero p e = rw (e, count_below) (omega arith)
 count_small (suc n) p e = omega (arith, count-suc (suc n) p, count_small n p e, picked-le (p (suc n)) true (λ _. refl), one)
   where
     one : picked true ≡ 1

@@ -9,42 +9,42 @@ use native.Mathlib.Omega.{arith}
 use Rattle.machine_state.specs.declared.Event.{Event}
 use Rattle.machine_state.specs.declared.Machine.{Machine}
 use Rattle.rules.specs.Step.{step}
-use Rattle.rules.specs.Asking.{isLastPoll, pollsAfter}
-use Rattle.rules.specs.Account.{Account, cutting, stays, staysWith, polled}
-use Rattle.rules.specs.Observer.{Watched, watchedPoll, watched, shownBy}
-use Rattle.rules.specs.Run.{Line, happens, isPoll}
-use Rattle.waiting.specs.Steps.{Moment, account, accountEnded, next, momentAfter, shows, waitedLimit, timesWith, timesIn}
-use Rattle.waiting.specs.Demand3.{timesDue}
-use Rattle.waiting.proofs.Went.{Heard, Polled, toCome, poll-went}
+use Rattle.rules.specs.Asking.{is_last_poll, polls_after}
+use Rattle.rules.specs.Account.{Account, cutting, stays, stays_with, polled}
+use Rattle.rules.specs.Observer.{Watched, watched_poll, watched, shown_by}
+use Rattle.rules.specs.Run.{Line, happens, is_poll}
+use Rattle.waiting.specs.Steps.{Moment, account, account_ended, next, moment_after, shows, waited_limit, times_with, times_in}
+use Rattle.waiting.specs.Demand3.{times_due}
+use Rattle.waiting.proofs.Went.{Heard, Polled, to_come, poll-went}
 use Rattle.waiting.proofs.Runs.{Along, next-along, other-stays, ended-stays, ended-next, is-poll}
 
 -- a poll hears the cell waited for: it shows a reply or a final state, or its limit has it heard
 abbrev pub hears : Moment → Bool
-hears now = shows now || isLastPoll (waitedLimit now) (account now).polls
+hears now = shows now || is_last_poll (waited_limit now) (account now).polls
 
 -- the count after a poll that hears nothing
-abbrev pub countAt : Moment → ℕ
-countAt now = pollsAfter (waitedLimit now) (account now).polls
+abbrev pub count_at : Moment → ℕ
+count_at now = polls_after (waited_limit now) (account now).polls
 
 -- what an event l does at the moment `now`
 pub data Progress (now : Moment) (l : Line) : Type 0 where
-  passed : isPoll l.event ≡ false → account (next step l now) ≡ stays (account now) → Progress now l
-  unheard : isPoll l.event ≡ true → hears now ≡ false → account (next step l now) ≡ staysWith (countAt now) (account now) → Progress now l
+  passed : is_poll l.event ≡ false → account (next step l now) ≡ stays (account now) → Progress now l
+  unheard : is_poll l.event ≡ true → hears now ≡ false → account (next step l now) ≡ stays_with (count_at now) (account now) → Progress now l
   heard :
-      isPoll l.event ≡ true → hears now ≡ true
-      → Heard now.machine (account now).kind (account now).target (toCome (account now).kind (account now).target (account now).place)
-      (timesDue (account now).place) (account (next step l now))
+      is_poll l.event ≡ true → hears now ≡ true
+      → Heard now.machine (account now).kind (account now).target (to_come (account now).kind (account now).target (account now).place)
+      (times_due (account now).place) (account (next step l now))
       → Progress now l
 
-polled-next : (now : Moment) (l : Line) → isPoll l.event ≡ true
-    → account (next step l now) ≡ polled (account now) now.watch.reply (shownBy now.machine)
-unfolding next watched watchedPoll
+polled-next : (now : Moment) (l : Line) → is_poll l.event ≡ true
+    → account (next step l now) ≡ polled (account now) now.watch.reply (shown_by now.machine)
+unfolding next watched watched_poll
 polled-next now l p =
     ap (λ (e : Event). (watched e (happens step l now.machine).answer now.machine now.watch).account) (is-poll l.event p)
 
 pub progress : (met : Machine) (now : Moment) (l : Line) → Along met now → Progress now l
 unfolding Polled next
-progress met now l f = go (isPoll l.event) refl
+progress met now l f = go (is_poll l.event) refl
   where
     w : Watched
     w = now.watch
@@ -52,54 +52,54 @@ progress met now l f = go (isPoll l.event) refl
     a : Account
     a = w.account
 
-    by-poll : isPoll l.event ≡ true
-        → Polled now.machine a.kind a.target a.place w.reply a (polled a w.reply (shownBy now.machine)) → Progress now l
+    by-poll : is_poll l.event ≡ true
+        → Polled now.machine a.kind a.target a.place w.reply a (polled a w.reply (shown_by now.machine)) → Progress now l
     by-poll p (inl h) = unheard p h.0 (polled-next now l p ∙ h.1)
     by-poll p (inr h) =
         heard p h.0
-        (subst (Heard now.machine a.kind a.target (toCome a.kind a.target a.place) (timesDue a.place)) (sym (polled-next now l p)) h.1)
+        (subst (Heard now.machine a.kind a.target (to_come a.kind a.target a.place) (times_due a.place)) (sym (polled-next now l p)) h.1)
 
-    go : (b : Bool) → isPoll l.event ≡ b → Progress now l
-    go true p = by-poll p (poll-went now.machine a w.reply f.follows.allWords f.follows.place f.follows.kind)
+    go : (b : Bool) → is_poll l.event ≡ b → Progress now l
+    go true p = by-poll p (poll-went now.machine a w.reply f.follows.all_words f.follows.place f.follows.kind)
     go false p = passed p (other-stays l.event _ now.machine w p)
 
 -- ---- the effect, once
 
 -- the call goes on, or it has ended
 unfoldable pub Going : Machine → Moment → Type 0
-Going met now = Along met now ⊎ (accountEnded now ≡ true)
+Going met now = Along met now ⊎ (account_ended now ≡ true)
 
 pub next-going : (met : Machine) (now : Moment) (l : Line) → Going met now → Going met (next step l now)
 unfolding Going
-next-going met now l (inl f) = go (accountEnded (next step l now)) refl
+next-going met now l (inl f) = go (account_ended (next step l now)) refl
   where
-    go : (b : Bool) → accountEnded (next step l now) ≡ b → Going met (next step l now)
+    go : (b : Bool) → account_ended (next step l now) ≡ b → Going met (next step l now)
     go true e = inr e
     go false e = inl (next-along met l now f e)
 next-going met now l (inr e) = inr (ended-next l now e)
 
 -- the effect is counted with the event with which it comes
 due-next : (met : Machine) (now : Moment) (l : Line) → Going met now
-    → timesDue (account now).place + timesWith (account (next step l now)) ≡ timesDue (account (next step l now)).place
-unfolding timesWith Going
+    → times_due (account now).place + times_with (account (next step l now)) ≡ times_due (account (next step l now)).place
+unfolding times_with Going
 due-next met now l f = by-going f
   where
-    stayed : (polls : ℕ) → account (next step l now) ≡ staysWith polls (account now)
-        → timesDue (account now).place + timesWith (account (next step l now)) ≡ timesDue (account (next step l now)).place
+    stayed : (polls : ℕ) → account (next step l now) ≡ stays_with polls (account now)
+        → times_due (account now).place + times_with (account (next step l now)) ≡ times_due (account (next step l now)).place
     stayed polls e = rw e (omega arith)
 
-    go : Progress now l → timesDue (account now).place + timesWith (account (next step l now)) ≡ timesDue (account (next step l now)).place
+    go : Progress now l → times_due (account now).place + times_with (account (next step l now)) ≡ times_due (account (next step l now)).place
     go (passed p e) = stayed (account now).polls e
-    go (unheard p h e) = stayed (countAt now) e
+    go (unheard p h e) = stayed (count_at now) e
     go (heard p h g) = rw (g.same ∙ ap (cutting g.cut) g.went.same) (sym g.went.due)
 
-    by-going : Going met now → timesDue (account now).place + timesWith (account (next step l now)) ≡ timesDue (account (next step l now)).place
+    by-going : Going met now → times_due (account now).place + times_with (account (next step l now)) ≡ times_due (account (next step l now)).place
     by-going (inl f) = go (progress met now l f)
     by-going (inr e) = stayed (account now).polls (ended-stays l now e)
 
 pub due-after : (met : Machine) (ls : List Line) (now : Moment) → Going met now
-    → timesDue (account now).place + timesIn step now ls ≡ timesDue (account (momentAfter step now ls)).place
-unfolding timesIn momentAfter
+    → times_due (account now).place + times_in step now ls ≡ times_due (account (moment_after step now ls)).place
+unfolding times_in moment_after
 due-after met [] now f = omega arith
 due-after met (l ∷ ls) now f =
     omega (arith, due-next met now l f, due-after met ls (next step l now) (next-going met now l f))

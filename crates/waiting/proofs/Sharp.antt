@@ -34,22 +34,22 @@ use Rattle.waiting.specs.Steps as Steps
 use Rattle.waiting.specs.Wrong as Wrong
 use Rattle.base.specs.Lists.{all}
 use Rattle.cell_record.specs.CellRecord.{cell_of}
-use Rattle.system_record.specs.SystemRecord.{bootAnswer}
+use Rattle.system_record.specs.SystemRecord.{boot_answer}
 use Rattle.machine_state.specs.declared.Waiting.{Waiting}
 use Rattle.machine_state.specs.declared.Waiting.TheVariants.{NoCall, Pending}
 use Rattle.machine_state.specs.declared.Answer.{Answer}
 use Rattle.machine_state.specs.declared.Answer.TheVariants.{Code, Wait, Done, Off, Bad, Stopped, Held, Denied, Idle}
 use Rattle.machine_state.specs.declared.Machine.{Machine}
-use Rattle.rules.specs.State.{commAt, cpuAt, withWaiting}
-use Rattle.rules.specs.Asking.{withPolls}
-use Rattle.rules.specs.Answers.{isWait}
+use Rattle.rules.specs.State.{comm_at, cpu_at, with_waiting}
+use Rattle.rules.specs.Asking.{with_polls}
+use Rattle.rules.specs.Answers.{is_wait}
 use Rattle.rules.specs.Account.{Account, answer_of}
 use Rattle.rules.specs.Run.{Line, Manager, Happened, happens, after, Accepted, start_of}
-use Rattle.reading_room.specs.ReadingRoom.{box, logStore}
-use Rattle.waiting.specs.Steps.{CallLine, callLine, pollLine, Moment, account, accountEnded, atCall, next, move_of, butWaiting, cellTableOf, CellTable, messagedWith}
+use Rattle.reading_room.specs.ReadingRoom.{box, log_store}
+use Rattle.waiting.specs.Steps.{CallLine, call_line, poll_line, Moment, account, account_ended, at_call, next, move_of, but_waiting, cell_table_of, CellTable, messaged_with}
 use Rattle.waiting.specs.Demand3.{since, WaitingCall, Demand3}
-use Rattle.waiting.specs.Box.{rootCall, bothStarted, hungStarted}
-use Rattle.waiting.specs.Wrong.{effectFirst, endsEarly, staleReply, denialConsents, locksBefore, messagesTwice, changesBack, tellsFirst, neverCutsOff, leavesRunning, losesReply, countsUnlimited}
+use Rattle.waiting.specs.Box.{root_call, both_started, hung_started}
+use Rattle.waiting.specs.Wrong.{effect_first, ends_early, stale_reply, denial_consents, locks_before, messages_twice, changes_back, tells_first, never_cuts_off, leaves_running, loses_reply, counts_unlimited}
 
 -- a figure of two things that are said to be equal
 unequal : {A : Type 0} (figure : A → ℕ) (x y : A) → eqb (figure x) (figure y) ≡ false → x ≡ y → ⊥
@@ -75,20 +75,20 @@ live : Machine → ℕ
 live m = m.live_ids
 
 to : ℕ → Machine → ℕ
-to id m = (commAt m id).msg_to_cell
+to id m = (comm_at m id).msg_to_cell
 
 from : ℕ → Machine → ℕ
-from id m = (commAt m id).reply_from_cell
+from id m = (comm_at m id).reply_from_cell
 
-isStopped : ℕ → Machine → ℕ
-isStopped cpu m = elim (cpuAt m cpu).stopped [ true ↦ 1 | false ↦ 0 ]
+is_stopped : ℕ → Machine → ℕ
+is_stopped cpu m = elim (cpu_at m cpu).stopped [ true ↦ 1 | false ↦ 0 ]
 
-countIn : Waiting → ℕ
-countIn NoCall = 0
-countIn (Pending kind stage) = stage.polls
+count_in : Waiting → ℕ
+count_in NoCall = 0
+count_in (Pending kind stage) = stage.polls
 
 count : Machine → ℕ
-count m = countIn m.waiting
+count m = count_in m.waiting
 
 -- ---- a run that breaks the claim
 
@@ -97,37 +97,37 @@ met : Manager → List Line → Machine
 met manager before = after manager (start_of box) before
 
 called : Manager → List Line → CallLine → Happened
-called manager before c = happens manager (callLine c) (met manager before)
+called manager before c = happens manager (call_line c) (met manager before)
 
 begun : Manager → List Line → CallLine → Account
-begun manager before c = account (atCall manager c (met manager before))
+begun manager before c = account (at_call manager c (met manager before))
 
 then : Manager → List Line → CallLine → List Line → Moment
 then manager before c later = since manager c (met manager before) later
 
-atPoll : Manager → List Line → CallLine → List Line → Happened
-atPoll manager before c later = happens manager (pollLine []) (then manager before c later).machine
+at_poll : Manager → List Line → CallLine → List Line → Happened
+at_poll manager before c later = happens manager (poll_line []) (then manager before c later).machine
 
 polled : Manager → List Line → CallLine → List Line → Account
-polled manager before c later = account (next manager (pollLine []) (then manager before c later))
+polled manager before c later = account (next manager (poll_line []) (then manager before c later))
 
 -- the call is left waiting, and it waits still after some lines
 record Waits (manager : Manager) (before : List Line) (c : CallLine) (later : List Line) : Type 0 where
   accepted : Accepted box
-  left : isWait (called manager before c).answer ≡ true
-  still : accountEnded (then manager before c later) ≡ false
+  left : is_wait (called manager before c).answer ≡ true
+  still : account_ended (then manager before c later) ≡ false
 
 -- the poll's answer is not the account's
 record WrongAnswer (manager : Manager) (before : List Line) (c : CallLine) (later : List Line) : Type 0 where
   waits : Waits manager before c later
-  wrong : eqb (number (atPoll manager before c later).answer) (number (answer_of (polled manager before c later))) ≡ false
+  wrong : eqb (number (at_poll manager before c later).answer) (number (answer_of (polled manager before c later))) ≡ false
 
 -- the machine that the poll leaves is not the one that the account's move makes
 record WrongMove (figure : Machine → ℕ) (manager : Manager) (before : List Line) (c : CallLine) (later : List Line) : Type 0 where
   waits : Waits manager before c later
   wrong :
-      eqb (figure (butWaiting (atPoll manager before c later).after))
-      (figure (butWaiting (move_of (polled manager before c later) (cell_of c.bytes) (then manager before c later).machine))) ≡ false
+      eqb (figure (but_waiting (at_poll manager before c later).after))
+      (figure (but_waiting (move_of (polled manager before c later) (cell_of c.bytes) (then manager before c later).machine))) ≡ false
 
 -- a poll with which the account stays changes more than its count, or counts otherwise
 record WrongCount (manager : Manager) (before : List Line) (c : CallLine) (later : List Line) : Type 0 where
@@ -135,17 +135,17 @@ record WrongCount (manager : Manager) (before : List Line) (c : CallLine) (later
   stays : (polled manager before c later).moved ≡ false
   wrong :
       let m = (then manager before c later).machine in
-      eqb (count (atPoll manager before c later).after) (count (withWaiting (withPolls (polled manager before c later).polls m.waiting) m)) ≡ false
+      eqb (count (at_poll manager before c later).after) (count (with_waiting (with_polls (polled manager before c later).polls m.waiting) m)) ≡ false
 
 -- the call changes the table though no effect came; it leaves a reply
 record WrongTable (manager : Manager) (before : List Line) (c : CallLine) : Type 0 where
   waits : Waits manager before c []
   none : (begun manager before c).effect ≡ false
-  wrong : eqb (live_in (cellTableOf (called manager before c).after)) (live_in (cellTableOf (met manager before))) ≡ false
+  wrong : eqb (live_in (cell_table_of (called manager before c).after)) (live_in (cell_table_of (met manager before))) ≡ false
 
 record WrongFrom (manager : Manager) (before : List Line) (c : CallLine) : Type 0 where
   waits : Waits manager before c []
-  wrong : all (λ id. eqb (commAt (called manager before c).after id).reply_from_cell 0) (messagedWith (begun manager before c)) ≡ false
+  wrong : all (λ id. eqb (comm_at (called manager before c).after id).reply_from_cell 0) (messaged_with (begun manager before c)) ≡ false
 
 module _ (manager : Manager) (before : List Line) (c : CallLine) where
   -- what the claim says of such a run
@@ -154,15 +154,15 @@ module _ (manager : Manager) (before : List Line) (c : CallLine) where
   claimed later w claim = claim box w.accepted before c w.left
 
   no_answer : (later : List Line) → WrongAnswer manager before c later → Demand3 manager → ⊥
-  unfolding atPoll polled then met
+  unfolding at_poll polled then met
   no_answer later w claim = unequal number _ _ w.wrong ((claimed later w.waits claim).answers.1 later [] w.waits.still)
 
   no_move : (figure : Machine → ℕ) (later : List Line) → WrongMove figure manager before c later → Demand3 manager → ⊥
-  unfolding atPoll polled then met Steps.countedFor
+  unfolding at_poll polled then met Steps.counted_for
   no_move figure later w claim = unequal figure _ _ w.wrong ((claimed later w.waits claim).effect.0.1 later [] w.waits.still)
 
   no-count : (later : List Line) → WrongCount manager before c later → Demand3 manager → ⊥
-  unfolding atPoll polled then met
+  unfolding at_poll polled then met
   no-count later w claim = unequal count _ _ w.wrong ((claimed later w.waits claim).counts.1 later [] w.waits.still w.stays)
 
   no_table : WrongTable manager before c → Demand3 manager → ⊥
@@ -176,39 +176,39 @@ module _ (manager : Manager) (before : List Line) (c : CallLine) where
 -- ---- the runs: Destroy of `search` beside `notes`, and Disable of both
 
 destroy : CallLine
-destroy = rootCall 4 1 []
+destroy = root_call 4 1 []
 
 disable : CallLine
-disable = rootCall 0 0 []
+disable = root_call 0 0 []
 
 -- `search` consents, denies
 consent : List Line
-consent = logStore 2 1 3 ∷ []
+consent = log_store 2 1 3 ∷ []
 
 denial : List Line
-denial = logStore 2 1 2 ∷ []
+denial = log_store 2 1 2 ∷ []
 
 record Runs : Type 0 where
-  effect-first : WrongTable effectFirst bothStarted destroy
-  ends-early : WrongAnswer endsEarly bothStarted destroy []
+  effect-first : WrongTable effect_first both_started destroy
+  ends-early : WrongAnswer ends_early both_started destroy []
   -- `search` stored 3 before it was asked
-  stale : WrongFrom staleReply (bothStarted ++ consent) destroy
-  stale-taken : WrongAnswer staleReply (bothStarted ++ consent) destroy []
-  denial-consents : WrongAnswer denialConsents bothStarted destroy denial
+  stale : WrongFrom stale_reply (both_started ++ consent) destroy
+  stale-taken : WrongAnswer stale_reply (both_started ++ consent) destroy []
+  denial-consents : WrongAnswer denial_consents both_started destroy denial
   -- `notes` locks the configuration while the call waits
-  locks-before : WrongAnswer locksBefore bothStarted destroy (logStore 1 2 1 ∷ consent)
+  locks-before : WrongAnswer locks_before both_started destroy (log_store 1 2 1 ∷ consent)
   -- `search` stores 9 to its `to`
-  twice : WrongMove (to 1) messagesTwice bothStarted destroy (logStore 2 0 9 ∷ [])
-  back : WrongMove (from 1) changesBack bothStarted disable consent
-  tells_first : WrongMove live tellsFirst bothStarted destroy consent
+  twice : WrongMove (to 1) messages_twice both_started destroy (log_store 2 0 9 ∷ [])
+  back : WrongMove (from 1) changes_back both_started disable consent
+  tells_first_lem : WrongMove live tells_first both_started destroy consent
   -- `search` has a limit of one poll and hangs, or denies at that poll
-  never-cuts-off : WrongAnswer neverCutsOff hungStarted destroy []
-  leaves-running : WrongMove (isStopped 2) leavesRunning hungStarted disable []
-  loses-reply : WrongAnswer losesReply hungStarted destroy denial
-  counts-unlimited : WrongCount countsUnlimited bothStarted destroy []
+  never-cuts-off : WrongAnswer never_cuts_off hung_started destroy []
+  leaves-running : WrongMove (is_stopped 2) leaves_running hung_started disable []
+  loses-reply : WrongAnswer loses_reply hung_started destroy denial
+  counts-unlimited : WrongCount counts_unlimited both_started destroy []
 
 runs : Runs
-unfolding Lists.all Lists.any Lists.pairwise Lists.from Lists.same Rules.firstRule CpuSet.member CpuSet.number_of CpuSet.subset CpuSet.meets CpuSet.is_empty CpuSet.union CpuSet.without CpuSet.below CpuSet.countBelow CpuSet.count Fields.littleEndian Fields.field Fields.zeros Fields.leading Fields.isName Fields.padded Regions.regionOf Regions.noRegion Regions.wholePages Regions.placed Regions.flagsOk Regions.commOk Regions.overlap Regions.inside Regions.overlapVirt Regions.overlapPhys Regions.apart Regions.clearOf Regions.insidePhys Tables.regionAt Tables.regionsOf Tables.table_of SystemRecord.systemOf SystemRecord.systemForm SystemRecord.bootRegionOk SystemRecord.systemValid SystemRecord.outOfRange SystemRecord.overdrawn SystemRecord.bootAnswer SystemRecord.readSystem CellRecord.cell_of CellRecord.versionOk CellRecord.limitOk CellRecord.cellForm CellRecord.cellRegionOk CellRecord.cellValid CellRecord.cellAnswer CellRecord.readCell Machine.freshCpu Machine.noComm Machine.noCell Machine.firstMachine Machine.powerAfter Machine.bootOf Room.region Room.box Room.cellRecord Room.search Room.limitedSearch Room.notes Run.after Room.booted State.first State.hasId State.active State.waits State.withWaiting State.withPower State.withPool State.withIds State.withRootCpus State.withCell State.withComm State.withCpus State.answered Unobeyed.isOn Unobeyed.storeDenied Unobeyed.unobeyed Queries.getInfo Queries.getState Queries.cpuGetInfo Create.otherCellLocked Create.invalid Create.nameInUse Create.conflict Create.conflicts Create.regionInUse Create.busy Create.freeId Create.noRoom Effects.bump Effects.countExit Effects.counted Effects.storeWord Effects.stored Effects.failCpu Effects.allFailed Effects.cellFailed Effects.faulted Effects.changeIn Effects.changeCpus Effects.cpusChanged Effects.startCpu Effects.stopCpu Effects.addId Effects.dropId Effects.newCell Effects.newComm Effects.cellCreated Effects.withPhase Effects.inPhase Effects.clearWords Effects.cellStarted Effects.cellLoadable Effects.cellCutOff Effects.cellDestroyed Effects.allDestroyed Effects.disabled Effects.effect Asking.mayBeMessaged Asking.nextToMessage Asking.asks Asking.tells Asking.isDestroy Asking.message Asking.waitFor Asking.finished Asking.endCode Asking.tell Asking.carryOut Asking.noneToAsk Asking.ask Asking.isHeard Asking.consents Asking.hear Asking.isLastPoll Asking.pollsAfter Asking.withPolls Asking.cutsOff Asking.hearsAt Asking.heardAt Asking.stillWaits Asking.pollCell Asking.poll Calls.disableCall Calls.createCall Calls.targetCall Calls.callByCode Calls.call Step.obeyed Step.step CommRegion.bytes Answers.isNegative Answers.isWait Account.nextShown Account.unusedId Account.aboutCell Account.lastCode Account.tellOn Account.effectComes Account.lockShown Account.noneLeftToAsk Account.askOn Account.begun Account.cellShown Account.failedShown Account.unheardAt Account.heardBy Account.consentsBy Account.polledAt Account.polled Account.answerAt Account.endedAt Account.waitedAt Observer.shownFrom Observer.kindOfCode Observer.target_of Observer.watchedCall Observer.watchedPoll Observer.isDone Observer.watchedStore Observer.watched Run.isPoll Steps.atCall Steps.next Steps.momentAfter Steps.cellOfPlace Steps.messagedWith Steps.messagedIn Steps.timesWith Steps.timesIn number live_in live isStopped countIn count to from met called begun then atPoll polled destroy disable consent denial Steps.messagedAt Steps.accountEffect Steps.cutFrom Steps.move_of Steps.cellTableOf Wrong.changed Wrong.leaving Wrong.waitedCell Wrong.effectFirst Wrong.endsEarly Wrong.replyKept Wrong.staleReply Wrong.asksOn Wrong.denialConsents Wrong.carriesOut Wrong.locksBefore Wrong.messagesTwice Wrong.changesBack Wrong.tellsOn Wrong.tellsFirst Wrong.waitsOn Wrong.neverCutsOff Wrong.runsOn Wrong.leavesRunning Wrong.cutsAnyway Wrong.losesReply Wrong.countsUnlimited
+unfolding Lists.all Lists.any Lists.pairwise Lists.from Lists.same Rules.first_rule CpuSet.member CpuSet.number_of CpuSet.subset CpuSet.meets CpuSet.is_empty CpuSet.union CpuSet.without CpuSet.below CpuSet.count_below CpuSet.count Fields.little_endian Fields.field Fields.zeros Fields.leading Fields.is_name Fields.padded Regions.region_of Regions.no_region Regions.whole_pages Regions.placed Regions.flags_ok Regions.comm_ok Regions.overlap Regions.inside Regions.overlap_virt Regions.overlap_phys Regions.apart Regions.clear_of Regions.inside_phys Tables.region_at Tables.regions_of Tables.table_of SystemRecord.system_of SystemRecord.system_form SystemRecord.boot_region_ok SystemRecord.system_valid SystemRecord.out_of_range SystemRecord.overdrawn SystemRecord.boot_answer SystemRecord.read_system CellRecord.cell_of CellRecord.version_ok CellRecord.limit_ok CellRecord.cell_form CellRecord.cell_region_ok CellRecord.cell_valid CellRecord.cell_answer CellRecord.read_cell Machine.fresh_cpu Machine.no_comm Machine.no_cell Machine.first_machine Machine.power_after Machine.boot_of Room.region Room.box Room.cell_record Room.search Room.limited_search Room.notes Run.after Room.booted State.first State.has_id State.active State.waits State.with_waiting State.with_power State.with_pool State.with_ids State.with_root_cpus State.with_cell State.with_comm State.with_cpus State.answered Unobeyed.is_on Unobeyed.store_denied Unobeyed.unobeyed Queries.get_info Queries.get_state Queries.cpu_get_info Create.other_cell_locked Create.invalid Create.name_in_use Create.conflict Create.conflicts Create.region_in_use Create.busy Create.free_id Create.no_room Effects.bump Effects.count_exit Effects.counted Effects.store_word Effects.stored Effects.fail_cpu Effects.all_failed Effects.cell_failed Effects.faulted Effects.change_in Effects.change_cpus Effects.cpus_changed Effects.start_cpu Effects.stop_cpu Effects.add_id Effects.drop_id Effects.new_cell Effects.new_comm Effects.cell_created Effects.with_phase Effects.in_phase Effects.clear_words Effects.cell_started Effects.cell_loadable Effects.cell_cut_off Effects.cell_destroyed Effects.all_destroyed Effects.disabled Effects.effect Asking.may_be_messaged Asking.next_to_message Asking.asks Asking.tells Asking.is_destroy Asking.message Asking.wait_for Asking.finished Asking.end_code Asking.tell Asking.carry_out Asking.none_to_ask Asking.ask Asking.is_heard Asking.consents Asking.hear Asking.is_last_poll Asking.polls_after Asking.with_polls Asking.cuts_off Asking.hears_at Asking.heard_at Asking.still_waits Asking.poll_cell Asking.poll Calls.disable_call Calls.create_call Calls.target_call Calls.call_by_code Calls.call Step.obeyed Step.step CommRegion.bytes Answers.is_negative Answers.is_wait Account.next_shown Account.unused_id Account.about_cell Account.last_code Account.tell_on Account.effect_comes Account.lock_shown Account.none_left_to_ask Account.ask_on Account.begun Account.cell_shown Account.failed_shown Account.unheard_at Account.heard_by Account.consents_by Account.polled_at Account.polled Account.answer_at Account.ended_at Account.waited_at Observer.shown_from Observer.kind_of_code Observer.target_of Observer.watched_call Observer.watched_poll Observer.is_done Observer.watched_store Observer.watched Run.is_poll Steps.at_call Steps.next Steps.moment_after Steps.cell_of_place Steps.messaged_with Steps.messaged_in Steps.times_with Steps.times_in number live_in live is_stopped count_in count to from met called begun then at_poll polled destroy disable consent denial Steps.messaged_at Steps.account_effect Steps.cut_from Steps.move_of Steps.cell_table_of Wrong.changed Wrong.leaving Wrong.waited_cell Wrong.effect_first Wrong.ends_early Wrong.reply_kept Wrong.stale_reply Wrong.asks_on Wrong.denial_consents Wrong.carries_out Wrong.locks_before Wrong.messages_twice Wrong.changes_back Wrong.tells_on Wrong.tells_first Wrong.waits_on Wrong.never_cuts_off Wrong.runs_on Wrong.leaves_running Wrong.cuts_anyway Wrong.loses_reply Wrong.counts_unlimited
 runs = record {
   effect-first = record { waits = record { accepted = refl; left = refl; still = refl }; none = refl; wrong = refl };
   ends-early = record { waits = record { accepted = refl; left = refl; still = refl }; wrong = refl };
@@ -218,7 +218,7 @@ runs = record {
   locks-before = record { waits = record { accepted = refl; left = refl; still = refl }; wrong = refl };
   twice = record { waits = record { accepted = refl; left = refl; still = refl }; wrong = refl };
   back = record { waits = record { accepted = refl; left = refl; still = refl }; wrong = refl };
-  tells_first = record { waits = record { accepted = refl; left = refl; still = refl }; wrong = refl };
+  tells_first_lem = record { waits = record { accepted = refl; left = refl; still = refl }; wrong = refl };
   never-cuts-off = record { waits = record { accepted = refl; left = refl; still = refl }; wrong = refl };
   leaves-running = record { waits = record { accepted = refl; left = refl; still = refl }; wrong = refl };
   loses-reply = record { waits = record { accepted = refl; left = refl; still = refl }; wrong = refl };
@@ -228,52 +228,52 @@ runs = record {
 -- ---- what they refute
 
 -- an effect at the first step, the polls only staged
-pub effect-first : Demand3 effectFirst → ⊥
-effect-first = no_table effectFirst bothStarted destroy runs.effect-first
+pub effect-first : Demand3 effect_first → ⊥
+effect-first = no_table effect_first both_started destroy runs.effect-first
 
 -- every wait ended early
-pub ends-early : Demand3 endsEarly → ⊥
-ends-early = no_answer endsEarly bothStarted destroy [] runs.ends-early
+pub ends-early : Demand3 ends_early → ⊥
+ends-early = no_answer ends_early both_started destroy [] runs.ends-early
 
 -- a stale reply: it is left, and it is taken
-pub stale-left : Demand3 staleReply → ⊥
-stale-left = no-from staleReply (bothStarted ++ consent) destroy runs.stale
+pub stale-left : Demand3 stale_reply → ⊥
+stale-left = no-from stale_reply (both_started ++ consent) destroy runs.stale
 
-pub stale-taken : Demand3 staleReply → ⊥
-stale-taken = no_answer staleReply (bothStarted ++ consent) destroy [] runs.stale-taken
+pub stale-taken : Demand3 stale_reply → ⊥
+stale-taken = no_answer stale_reply (both_started ++ consent) destroy [] runs.stale-taken
 
 -- a denial taken for consent
-pub denial-consents : Demand3 denialConsents → ⊥
-denial-consents = no_answer denialConsents bothStarted destroy denial runs.denial-consents
+pub denial-consents : Demand3 denial_consents → ⊥
+denial-consents = no_answer denial_consents both_started destroy denial runs.denial-consents
 
 -- locks tested only before the wait
-pub locks-before : Demand3 locksBefore → ⊥
-locks-before = no_answer locksBefore bothStarted destroy (logStore 1 2 1 ∷ consent) runs.locks-before
+pub locks-before : Demand3 locks_before → ⊥
+locks-before = no_answer locks_before both_started destroy (log_store 1 2 1 ∷ consent) runs.locks-before
 
 -- a cell messaged twice
-pub messages-twice : Demand3 messagesTwice → ⊥
-messages-twice = no_move messagesTwice bothStarted destroy (to 1) (logStore 2 0 9 ∷ []) runs.twice
+pub messages-twice : Demand3 messages_twice → ⊥
+messages-twice = no_move messages_twice both_started destroy (to 1) (log_store 2 0 9 ∷ []) runs.twice
 
 -- a heard cell changed back
-pub changes-back : Demand3 changesBack → ⊥
-changes-back = no_move changesBack bothStarted disable (from 1) consent runs.back
+pub changes-back : Demand3 changes_back → ⊥
+changes-back = no_move changes_back both_started disable (from 1) consent runs.back
 
 -- telling before the effect
-pub tells_first : Demand3 tellsFirst → ⊥
-tells_first = no_move tellsFirst bothStarted destroy live consent runs.tells_first
+pub tells_first_lem : Demand3 tells_first → ⊥
+tells_first_lem = no_move tells_first both_started destroy live consent runs.tells_first
 
 -- a limit that never cuts off
-pub never-cuts-off : Demand3 neverCutsOff → ⊥
-never-cuts-off = no_answer neverCutsOff hungStarted destroy [] runs.never-cuts-off
+pub never-cuts-off : Demand3 never_cuts_off → ⊥
+never-cuts-off = no_answer never_cuts_off hung_started destroy [] runs.never-cuts-off
 
 -- the CPUs of a cell that is cut off left running
-pub leaves-running : Demand3 leavesRunning → ⊥
-leaves-running = no_move leavesRunning hungStarted disable (isStopped 2) [] runs.leaves-running
+pub leaves-running : Demand3 leaves_running → ⊥
+leaves-running = no_move leaves_running hung_started disable (is_stopped 2) [] runs.leaves-running
 
 -- a reply at the limit's poll lost
-pub loses-reply : Demand3 losesReply → ⊥
-loses-reply = no_answer losesReply hungStarted destroy denial runs.loses-reply
+pub loses-reply : Demand3 loses_reply → ⊥
+loses-reply = no_answer loses_reply hung_started destroy denial runs.loses-reply
 
 -- a count where there is no limit
-pub counts-unlimited : Demand3 countsUnlimited → ⊥
-counts-unlimited = no-count countsUnlimited bothStarted destroy [] runs.counts-unlimited
+pub counts-unlimited : Demand3 counts_unlimited → ⊥
+counts-unlimited = no-count counts_unlimited both_started destroy [] runs.counts-unlimited

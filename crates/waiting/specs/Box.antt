@@ -7,11 +7,11 @@ use Rattle.machine_state.specs.declared.Answer.{Answer}
 use Rattle.machine_state.specs.declared.Answer.TheVariants.{Code, Wait, Done, Held, Stopped}
 use Rattle.rules.specs.Account.{answer_of}
 use Rattle.rules.specs.Step.{step}
-use Rattle.rules.specs.Run.{Line, after, happens, isPoll}
-use Rattle.texts.specs.Texts.{answerText}
-use Rattle.reading_room.specs.ReadingRoom.{region, cell, limitedCell, search, limitedSearch, notes, sameBool, booted, logCall, logCreate, logStore, logFault, logPoll, Said, ◌▷◌, saidLines}
-use Rattle.waiting.specs.Steps.{CallLine, callLine, Moment, account, accountEnded, atCall, next, timesWith, timesIn}
-use Rattle.waiting.specs.Demand3.{sizeOfW, allLimited, sumOfLimits, messaged}
+use Rattle.rules.specs.Run.{Line, after, happens, is_poll}
+use Rattle.texts.specs.Texts.{answer_text}
+use Rattle.reading_room.specs.ReadingRoom.{region, cell, limited_cell, search, limited_search, notes, same_bool, booted, log_call, log_create, log_store, log_fault, log_poll, Said, ◌▷◌, said_lines}
+use Rattle.waiting.specs.Steps.{CallLine, call_line, Moment, account, account_ended, at_call, next, times_with, times_in}
+use Rattle.waiting.specs.Demand3.{size_of_w, all_limited, sum_of_limits, messaged}
 
 -- two cells like `notes`, a comm region alone: `clerk` with CPU 2 and `press` with CPU 3
 unfoldable pub clerk : List ℕ
@@ -21,35 +21,35 @@ unfoldable pub press : List ℕ
 press = cell 0 (0x70 ∷ 0x72 ∷ 0x65 ∷ 0x73 ∷ 0x73 ∷ []) 8 1 (region 0 0 4096 11)
 
 -- the same with a reply limit
-unfoldable pub limitedNotes : ℕ → List ℕ
-limitedNotes limit = limitedCell limit 0 (0x6e ∷ 0x6f ∷ 0x74 ∷ 0x65 ∷ 0x73 ∷ []) 2 1 (region 0 0 4096 11)
+unfoldable pub limited_notes : ℕ → List ℕ
+limited_notes limit = limited_cell limit 0 (0x6e ∷ 0x6f ∷ 0x74 ∷ 0x65 ∷ 0x73 ∷ []) 2 1 (region 0 0 4096 11)
 
-unfoldable pub limitedClerk : ℕ → List ℕ
-limitedClerk limit = limitedCell limit 0 (0x63 ∷ 0x6c ∷ 0x65 ∷ 0x72 ∷ 0x6b ∷ []) 4 1 (region 0 0 4096 11)
+unfoldable pub limited_clerk : ℕ → List ℕ
+limited_clerk limit = limited_cell limit 0 (0x63 ∷ 0x6c ∷ 0x65 ∷ 0x72 ∷ 0x6b ∷ []) 4 1 (region 0 0 4096 11)
 
 -- cells created and then started, so that no call waits on the way: `search` as 1 and `notes` as 2; `notes` as 1 and `clerk` as 2; and `press` as 3
-abbrev pub bothStarted : List Line
-bothStarted = logCreate 0 search ∷ logCreate 0 notes ∷ logCall 0 2 1 0 ∷ logCall 0 2 2 0 ∷ []
+abbrev pub both_started : List Line
+both_started = log_create 0 search ∷ log_create 0 notes ∷ log_call 0 2 1 0 ∷ log_call 0 2 2 0 ∷ []
 
-abbrev pub twoStarted : List Line
-twoStarted = logCreate 0 notes ∷ logCreate 0 clerk ∷ logCall 0 2 1 0 ∷ logCall 0 2 2 0 ∷ []
+abbrev pub two_started : List Line
+two_started = log_create 0 notes ∷ log_create 0 clerk ∷ log_call 0 2 1 0 ∷ log_call 0 2 2 0 ∷ []
 
-abbrev pub threeStarted : List Line
-threeStarted = logCreate 0 notes ∷ logCreate 0 clerk ∷ logCreate 0 press ∷ logCall 0 2 1 0 ∷ logCall 0 2 2 0 ∷ logCall 0 2 3 0 ∷ []
+abbrev pub three_started : List Line
+three_started = log_create 0 notes ∷ log_create 0 clerk ∷ log_create 0 press ∷ log_call 0 2 1 0 ∷ log_call 0 2 2 0 ∷ log_call 0 2 3 0 ∷ []
 
 -- `search` with a limit of one poll as 1 and `notes` as 2; `notes` with one of two polls as 1 and `clerk` with one of three as 2; and `press` as 3
-abbrev pub hungStarted : List Line
-hungStarted = logCreate 0 (limitedSearch 1) ∷ logCreate 0 notes ∷ logCall 0 2 1 0 ∷ logCall 0 2 2 0 ∷ []
+abbrev pub hung_started : List Line
+hung_started = log_create 0 (limited_search 1) ∷ log_create 0 notes ∷ log_call 0 2 1 0 ∷ log_call 0 2 2 0 ∷ []
 
-abbrev pub twoLimited : List Line
-twoLimited = logCreate 0 (limitedNotes 2) ∷ logCreate 0 (limitedClerk 3) ∷ logCall 0 2 1 0 ∷ logCall 0 2 2 0 ∷ []
+abbrev pub two_limited : List Line
+two_limited = log_create 0 (limited_notes 2) ∷ log_create 0 (limited_clerk 3) ∷ log_call 0 2 1 0 ∷ log_call 0 2 2 0 ∷ []
 
-abbrev pub secondLimited : List Line
-secondLimited = logCreate 0 notes ∷ logCreate 0 (limitedClerk 3) ∷ logCreate 0 press ∷ logCall 0 2 1 0 ∷ logCall 0 2 2 0 ∷ logCall 0 2 3 0 ∷ []
+abbrev pub second_limited : List Line
+second_limited = log_create 0 notes ∷ log_create 0 (limited_clerk 3) ∷ log_create 0 press ∷ log_call 0 2 1 0 ∷ log_call 0 2 2 0 ∷ log_call 0 2 3 0 ∷ []
 
 -- a call of CPU 0
-abbrev pub rootCall : ℕ → ℕ → List ℕ → CallLine
-rootCall code a1 bytes = record { cpu = 0; code = code; a1 = a1; a2 = 0; bytes = bytes }
+abbrev pub root_call : ℕ → ℕ → List ℕ → CallLine
+root_call code a1 bytes = record { cpu = 0; code = code; a1 = a1; a2 = 0; bytes = bytes }
 
 -- a row: the lines before the call, the call and its answer, the lines after it and theirs; and the cells that it messages, how often its effect
 -- comes, the size of W, whether each of its cells has a limit, and the sum of these
@@ -64,39 +64,39 @@ pub record WaitingRow : Type 0 where
   pub limited : Bool
   pub sum : ℕ
 
-unfoldable pub sameAnswer : Answer → Answer → Bool
-sameAnswer a b = same (answerText a) (answerText b)
+unfoldable pub same_answer : Answer → Answer → Bool
+same_answer a b = same (answer_text a) (answer_text b)
 
 -- every line is answered as said, and a poll so by the account too
-unfoldable pub waitingLogHolds : Moment → List Said → Bool
-waitingLogHolds now [] = accountEnded now
-waitingLogHolds now (s ∷ ss) =
+unfoldable pub waiting_log_holds : Moment → List Said → Bool
+waiting_log_holds now [] = account_ended now
+waiting_log_holds now (s ∷ ss) =
     let after = next step s.line now in
-    sameAnswer (happens step s.line now.machine).answer s.answer
-    && (not (isPoll s.line.event) || sameAnswer (answer_of (account after)) s.answer)
-    && waitingLogHolds after ss
+    same_answer (happens step s.line now.machine).answer s.answer
+    && (not (is_poll s.line.event) || same_answer (answer_of (account after)) s.answer)
+    && waiting_log_holds after ss
 
-unfoldable pub waitingRowHolds : WaitingRow → Bool
-waitingRowHolds r =
+unfoldable pub waiting_row_holds : WaitingRow → Bool
+waiting_row_holds r =
     let met = after step booted r.before in
-    let start = atCall step r.call met in
-    sameAnswer (happens step (callLine r.call) met).answer r.answer
-    && sameAnswer (answer_of (account start)) r.answer
-    && waitingLogHolds start r.log
-    && same (messaged step r.call met (saidLines r.log)) r.messages
-    && eqb (timesWith (account start) + timesIn step start (saidLines r.log)) r.effects
-    && eqb (sizeOfW (account start) met) r.size
-    && sameBool (allLimited (account start) met) r.limited
-    && eqb (sumOfLimits (account start) met) r.sum
+    let start = at_call step r.call met in
+    same_answer (happens step (call_line r.call) met).answer r.answer
+    && same_answer (answer_of (account start)) r.answer
+    && waiting_log_holds start r.log
+    && same (messaged step r.call met (said_lines r.log)) r.messages
+    && eqb (times_with (account start) + times_in step start (said_lines r.log)) r.effects
+    && eqb (size_of_w (account start) met) r.size
+    && same_bool (all_limited (account start) met) r.limited
+    && eqb (sum_of_limits (account start) met) r.sum
 
-unfoldable pub waitingRows : List WaitingRow
-waitingRows =
+unfoldable pub waiting_rows : List WaitingRow
+waiting_rows =
     -- Destroy with a denial
     record {
-      before = bothStarted;
-      call = rootCall 4 1 [];
+      before = both_started;
+      call = root_call 4 1 [];
       answer = Wait 1;
-      log = (logStore 2 1 2 ▷ Done) ∷ (logPoll ▷ Code EPERM) ∷ [];
+      log = (log_store 2 1 2 ▷ Done) ∷ (log_poll ▷ Code EPERM) ∷ [];
       messages = 1 ∷ [];
       effects = 0;
       size = 2;
@@ -105,12 +105,12 @@ waitingRows =
     }
     -- with consent; root is held, a reply is taken back and given, and `notes` is told
     ∷ record {
-      before = bothStarted;
-      call = rootCall 4 1 [];
+      before = both_started;
+      call = root_call 4 1 [];
       answer = Wait 1;
       log =
-          (logPoll ▷ Wait 1) ∷ (logCall 0 5 4 0 ▷ Held) ∷ (logStore 2 1 3 ▷ Done) ∷ (logStore 2 1 0 ▷ Done) ∷ (logPoll ▷ Wait 1) ∷ (logStore 2 1 3 ▷ Done)
-          ∷ (logPoll ▷ Wait 2) ∷ (logStore 1 1 5 ▷ Done) ∷ (logPoll ▷ Code (pos 0)) ∷ [];
+          (log_poll ▷ Wait 1) ∷ (log_call 0 5 4 0 ▷ Held) ∷ (log_store 2 1 3 ▷ Done) ∷ (log_store 2 1 0 ▷ Done) ∷ (log_poll ▷ Wait 1) ∷ (log_store 2 1 3 ▷ Done)
+          ∷ (log_poll ▷ Wait 2) ∷ (log_store 1 1 5 ▷ Done) ∷ (log_poll ▷ Code (pos 0)) ∷ [];
       messages = 1 ∷ 2 ∷ [];
       effects = 1;
       size = 2;
@@ -119,10 +119,10 @@ waitingRows =
     }
     -- with a lock that appears while waiting
     ∷ record {
-      before = bothStarted;
-      call = rootCall 4 1 [];
+      before = both_started;
+      call = root_call 4 1 [];
       answer = Wait 1;
-      log = (logStore 1 2 1 ▷ Done) ∷ (logStore 2 1 3 ▷ Done) ∷ (logPoll ▷ Code EPERM) ∷ [];
+      log = (log_store 1 2 1 ▷ Done) ∷ (log_store 2 1 3 ▷ Done) ∷ (log_poll ▷ Code EPERM) ∷ [];
       messages = 1 ∷ [];
       effects = 0;
       size = 2;
@@ -131,10 +131,10 @@ waitingRows =
     }
     -- Create telling two cells: its effect came with the call
     ∷ record {
-      before = twoStarted;
-      call = rootCall 1 0 press;
+      before = two_started;
+      call = root_call 1 0 press;
       answer = Wait 1;
-      log = (logStore 1 1 7 ▷ Done) ∷ (logPoll ▷ Wait 2) ∷ (logStore 2 1 8 ▷ Done) ∷ (logPoll ▷ Code (pos 3)) ∷ [];
+      log = (log_store 1 1 7 ▷ Done) ∷ (log_poll ▷ Wait 2) ∷ (log_store 2 1 8 ▷ Done) ∷ (log_poll ▷ Code (pos 3)) ∷ [];
       messages = 1 ∷ 2 ∷ [];
       effects = 1;
       size = 2;
@@ -143,11 +143,11 @@ waitingRows =
     }
     -- Disable over three cells with a fault in between
     ∷ record {
-      before = threeStarted;
-      call = rootCall 0 0 [];
+      before = three_started;
+      call = root_call 0 0 [];
       answer = Wait 1;
       log =
-          (logStore 1 1 3 ▷ Done) ∷ (logPoll ▷ Wait 2) ∷ (logFault 2 ▷ Done) ∷ (logPoll ▷ Wait 3) ∷ (logStore 3 1 3 ▷ Done) ∷ (logPoll ▷ Code (pos 0)) ∷ [];
+          (log_store 1 1 3 ▷ Done) ∷ (log_poll ▷ Wait 2) ∷ (log_fault 2 ▷ Done) ∷ (log_poll ▷ Wait 3) ∷ (log_store 3 1 3 ▷ Done) ∷ (log_poll ▷ Code (pos 0)) ∷ [];
       messages = 1 ∷ 2 ∷ 3 ∷ [];
       effects = 1;
       size = 3;
@@ -156,10 +156,10 @@ waitingRows =
     }
     -- Destroy of a cell that hangs: the first poll is the last of its limit, and `notes` is told
     ∷ record {
-      before = hungStarted;
-      call = rootCall 4 1 [];
+      before = hung_started;
+      call = root_call 4 1 [];
       answer = Wait 1;
-      log = (logPoll ▷ Wait 2) ∷ (logStore 1 1 5 ▷ Done) ∷ (logPoll ▷ Code (pos 0)) ∷ [];
+      log = (log_poll ▷ Wait 2) ∷ (log_store 1 1 5 ▷ Done) ∷ (log_poll ▷ Code (pos 0)) ∷ [];
       messages = 1 ∷ 2 ∷ [];
       effects = 1;
       size = 2;
@@ -168,10 +168,10 @@ waitingRows =
     }
     -- refused at that poll for a lock elsewhere; a denial at that poll wins
     ∷ record {
-      before = hungStarted;
-      call = rootCall 4 1 [];
+      before = hung_started;
+      call = root_call 4 1 [];
       answer = Wait 1;
-      log = (logStore 1 2 1 ▷ Done) ∷ (logPoll ▷ Code EPERM) ∷ [];
+      log = (log_store 1 2 1 ▷ Done) ∷ (log_poll ▷ Code EPERM) ∷ [];
       messages = 1 ∷ [];
       effects = 0;
       size = 2;
@@ -179,10 +179,10 @@ waitingRows =
       sum = 1;
     }
     ∷ record {
-      before = hungStarted;
-      call = rootCall 4 1 [];
+      before = hung_started;
+      call = root_call 4 1 [];
       answer = Wait 1;
-      log = (logStore 2 1 2 ▷ Done) ∷ (logPoll ▷ Code EPERM) ∷ [];
+      log = (log_store 2 1 2 ▷ Done) ∷ (log_poll ▷ Code EPERM) ∷ [];
       messages = 1 ∷ [];
       effects = 0;
       size = 2;
@@ -191,10 +191,10 @@ waitingRows =
     }
     -- Create telling two cells that hang: it ends within the sum of their limits, five polls
     ∷ record {
-      before = twoLimited;
-      call = rootCall 1 0 press;
+      before = two_limited;
+      call = root_call 1 0 press;
       answer = Wait 1;
-      log = (logPoll ▷ Wait 1) ∷ (logPoll ▷ Wait 2) ∷ (logPoll ▷ Wait 2) ∷ (logPoll ▷ Wait 2) ∷ (logPoll ▷ Code (pos 3)) ∷ [];
+      log = (log_poll ▷ Wait 1) ∷ (log_poll ▷ Wait 2) ∷ (log_poll ▷ Wait 2) ∷ (log_poll ▷ Wait 2) ∷ (log_poll ▷ Code (pos 3)) ∷ [];
       messages = 1 ∷ 2 ∷ [];
       effects = 1;
       size = 2;
@@ -203,12 +203,12 @@ waitingRows =
     }
     -- Disable over three cells of which the second hangs
     ∷ record {
-      before = secondLimited;
-      call = rootCall 0 0 [];
+      before = second_limited;
+      call = root_call 0 0 [];
       answer = Wait 1;
       log =
-          (logPoll ▷ Wait 1) ∷ (logStore 1 1 3 ▷ Done) ∷ (logPoll ▷ Wait 2) ∷ (logPoll ▷ Wait 2) ∷ (logPoll ▷ Wait 2) ∷ (logPoll ▷ Wait 3)
-          ∷ (logStore 2 1 3 ▷ Stopped) ∷ (logStore 3 1 3 ▷ Done) ∷ (logPoll ▷ Code (pos 0)) ∷ [];
+          (log_poll ▷ Wait 1) ∷ (log_store 1 1 3 ▷ Done) ∷ (log_poll ▷ Wait 2) ∷ (log_poll ▷ Wait 2) ∷ (log_poll ▷ Wait 2) ∷ (log_poll ▷ Wait 3)
+          ∷ (log_store 2 1 3 ▷ Stopped) ∷ (log_store 3 1 3 ▷ Done) ∷ (log_poll ▷ Code (pos 0)) ∷ [];
       messages = 1 ∷ 2 ∷ 3 ∷ [];
       effects = 1;
       size = 3;

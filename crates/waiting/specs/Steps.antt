@@ -10,12 +10,12 @@ use Rattle.machine_state.specs.declared.Waiting.TheVariants.{NoCall}
 use Rattle.machine_state.specs.declared.Event.{Event}
 use Rattle.machine_state.specs.declared.Event.TheVariants.{Call, Store, Fault, Exit, Poll, Malformed}
 use Rattle.machine_state.specs.declared.Machine.{Machine}
-use Rattle.rules.specs.State.{commAt, withComm, withWaiting}
-use Rattle.rules.specs.Effects.{counted, callCounter, effect, cellCutOff}
-use Rattle.rules.specs.Asking.{message, shutdownRequest, reconfigCompleted}
-use Rattle.rules.specs.Account.{Account, CutOff, NoneCut, WasCut, Place, Asks, Tells, Ended, endedAt, waitedAt, heardBy, stateShown, limitShown}
-use Rattle.rules.specs.Observer.{Watched, watchedCall, watched, shownBy}
-use Rattle.rules.specs.Run.{Line, Manager, happens, isPoll}
+use Rattle.rules.specs.State.{comm_at, with_comm, with_waiting}
+use Rattle.rules.specs.Effects.{counted, call_counter, effect, cell_cut_off}
+use Rattle.rules.specs.Asking.{message, shutdown_request, reconfig_completed}
+use Rattle.rules.specs.Account.{Account, CutOff, NoneCut, WasCut, Place, Asks, Tells, Ended, ended_at, waited_at, heard_by, state_shown, limit_shown}
+use Rattle.rules.specs.Observer.{Watched, watched_call, watched, shown_by}
+use Rattle.rules.specs.Run.{Line, Manager, happens, is_poll}
 
 -- a call of a CPU, with the bytes that come with it, and a poll
 pub record CallLine : Type 0 where
@@ -25,11 +25,11 @@ pub record CallLine : Type 0 where
   pub a2 : ℕ
   pub bytes : List ℕ
 
-abbrev pub callLine : CallLine → Line
-callLine c = record { event = Call c.cpu c.code c.a1 c.a2; bytes = c.bytes }
+abbrev pub call_line : CallLine → Line
+call_line c = record { event = Call c.cpu c.code c.a1 c.a2; bytes = c.bytes }
 
-abbrev pub pollLine : List ℕ → Line
-pollLine bytes = record { event = Poll; bytes = bytes }
+abbrev pub poll_line : List ℕ → Line
+poll_line bytes = record { event = Poll; bytes = bytes }
 
 -- ---- moments
 
@@ -42,12 +42,12 @@ abbrev pub account : Moment → Account
 account now = now.watch.account
 
 -- the account has ended
-abbrev pub accountEnded : Moment → Bool
-accountEnded now = endedAt now.watch.account.place
+abbrev pub account_ended : Moment → Bool
+account_ended now = ended_at now.watch.account.place
 
 -- right after the call, which met the machine `met`
-unfoldable pub atCall : Manager → CallLine → Machine → Moment
-atCall manager c met = record { machine = (happens manager (callLine c) met).after; watch = watchedCall c.code c.a1 met }
+unfoldable pub at_call : Manager → CallLine → Machine → Moment
+at_call manager c met = record { machine = (happens manager (call_line c) met).after; watch = watched_call c.code c.a1 met }
 
 -- after one more event, and after a list of them
 unfoldable pub next : Manager → Line → Moment → Moment
@@ -56,43 +56,43 @@ next manager l now = record {
   watch = watched l.event (happens manager l now.machine).answer now.machine now.watch;
 }
 
-unfoldable pub momentAfter : Manager → Moment → List Line → Moment
-momentAfter manager now [] = now
-momentAfter manager now (l ∷ ls) = momentAfter manager (next manager l now) ls
+unfoldable pub moment_after : Manager → Moment → List Line → Moment
+moment_after manager now [] = now
+moment_after manager now (l ∷ ls) = moment_after manager (next manager l now) ls
 
 -- ---- what an own step does to the machine
 
 -- "To message a cell: from becomes 0, then to becomes 1 (shutdown request) or 2 (reconfiguration completed)"
-unfoldable pub messagedAt : Place → Machine → Machine
-messagedAt (Asks c) m = withComm c (message shutdownRequest (commAt m c)) m
-messagedAt (Tells c) m = withComm c (message reconfigCompleted (commAt m c)) m
-messagedAt (Ended code) m = m
+unfoldable pub messaged_at : Place → Machine → Machine
+messaged_at (Asks c) m = with_comm c (message shutdown_request (comm_at m c)) m
+messaged_at (Tells c) m = with_comm c (message reconfig_completed (comm_at m c)) m
+messaged_at (Ended code) m = m
 
 -- the account's last move on a machine: the cell that its limit cut off, if any; then the effect's rule, if it came with it; then the message, if
 -- it moved. `new` is Create's cell
-unfoldable pub cutFrom : CutOff → Machine → Machine
-cutFrom NoneCut m = m
-cutFrom (WasCut c) m = cellCutOff c m
+unfoldable pub cut_from : CutOff → Machine → Machine
+cut_from NoneCut m = m
+cut_from (WasCut c) m = cell_cut_off c m
 
-unfoldable pub accountEffect : Account → CellConfig → Machine → Machine
-accountEffect a new m = elim a.effect [ true ↦ effect a.kind a.target new m | false ↦ m ]
+unfoldable pub account_effect : Account → CellConfig → Machine → Machine
+account_effect a new m = elim a.effect [ true ↦ effect a.kind a.target new m | false ↦ m ]
 
 unfoldable pub move_of : Account → CellConfig → Machine → Machine
 move_of a new m =
-    let n = accountEffect a new (cutFrom a.cut m) in elim a.moved [ true ↦ messagedAt a.place n | false ↦ n ]
+    let n = account_effect a new (cut_from a.cut m) in elim a.moved [ true ↦ messaged_at a.place n | false ↦ n ]
 
 -- "An obeyed call .. first adds one to its own counter and the total of that CPU"
-unfoldable pub countedFor : Event → Machine → Machine
-countedFor (Call cpu code a1 a2) m = counted callCounter cpu m
-countedFor (Store cpu word value) m = m
-countedFor (Fault cpu) m = m
-countedFor (Exit cpu kind) m = m
-countedFor Poll m = m
-countedFor Malformed m = m
+unfoldable pub counted_for : Event → Machine → Machine
+counted_for (Call cpu code a1 a2) m = counted call_counter cpu m
+counted_for (Store cpu word value) m = m
+counted_for (Fault cpu) m = m
+counted_for (Exit cpu kind) m = m
+counted_for Poll m = m
+counted_for Malformed m = m
 
 -- the machine but for the field that holds the waiting call
-abbrev pub butWaiting : Machine → Machine
-butWaiting m = withWaiting NoCall m
+abbrev pub but_waiting : Machine → Machine
+but_waiting m = with_waiting NoCall m
 
 -- "live cells, phases, CPU owners or pool use": the table, with whether the machine is on
 pub record CellTable : Type 0 where
@@ -103,71 +103,71 @@ pub record CellTable : Type 0 where
   pub owners : List ℕ
   pub pool : ℕ
 
-unfoldable pub ownerIn : Cpu → ℕ
-ownerIn p = p.cell
+unfoldable pub owner_in : Cpu → ℕ
+owner_in p = p.cell
 
-unfoldable pub cellTableOf : Machine → CellTable
-cellTableOf m = record {
+unfoldable pub cell_table_of : Machine → CellTable
+cell_table_of m = record {
   power = m.power;
   live = m.live_ids;
   cells = m.cells;
   root = m.root_cpus;
-  owners = map ownerIn m.cpus;
+  owners = map owner_in m.cpus;
   pool = m.pool_used;
 }
 
 -- ---- counting along a list
 
 -- the cells that the account messaged with the last event: the one that it moved on to, or none
-unfoldable pub cellOfPlace : Place → List ℕ
-cellOfPlace (Asks c) = c ∷ []
-cellOfPlace (Tells c) = c ∷ []
-cellOfPlace (Ended code) = []
+unfoldable pub cell_of_place : Place → List ℕ
+cell_of_place (Asks c) = c ∷ []
+cell_of_place (Tells c) = c ∷ []
+cell_of_place (Ended code) = []
 
-unfoldable pub messagedWith : Account → List ℕ
-messagedWith a = elim a.moved [ true ↦ cellOfPlace a.place | false ↦ [] ]
+unfoldable pub messaged_with : Account → List ℕ
+messaged_with a = elim a.moved [ true ↦ cell_of_place a.place | false ↦ [] ]
 
-unfoldable pub messagedIn : Manager → Moment → List Line → List ℕ
-messagedIn manager now [] = []
-messagedIn manager now (l ∷ ls) = messagedWith (account (next manager l now)) ++ messagedIn manager (next manager l now) ls
+unfoldable pub messaged_in : Manager → Moment → List Line → List ℕ
+messaged_in manager now [] = []
+messaged_in manager now (l ∷ ls) = messaged_with (account (next manager l now)) ++ messaged_in manager (next manager l now) ls
 
 -- how often the effect came: with the last event, and along a list
-unfoldable pub timesWith : Account → ℕ
-timesWith a = elim a.effect [ true ↦ 1 | false ↦ 0 ]
+unfoldable pub times_with : Account → ℕ
+times_with a = elim a.effect [ true ↦ 1 | false ↦ 0 ]
 
-unfoldable pub timesIn : Manager → Moment → List Line → ℕ
-timesIn manager now [] = 0
-timesIn manager now (l ∷ ls) = timesWith (account (next manager l now)) + timesIn manager (next manager l now) ls
+unfoldable pub times_in : Manager → Moment → List Line → ℕ
+times_in manager now [] = 0
+times_in manager now (l ∷ ls) = times_with (account (next manager l now)) + times_in manager (next manager l now) ls
 
 -- the polls of a list
-unfoldable pub pollsIn : List Line → ℕ
-pollsIn [] = 0
-pollsIn (l ∷ ls) = elim (isPoll l.event) [ true ↦ suc (pollsIn ls) | false ↦ pollsIn ls ]
+unfoldable pub polls_in : List Line → ℕ
+polls_in [] = 0
+polls_in (l ∷ ls) = elim (is_poll l.event) [ true ↦ suc (polls_in ls) | false ↦ polls_in ls ]
 
 -- the cell waited for shows a reply or a final state
 abbrev pub shows : Moment → Bool
-shows now = heardBy now.watch.reply (stateShown (waitedAt (account now).place) (shownBy now.machine))
+shows now = heard_by now.watch.reply (state_shown (waited_at (account now).place) (shown_by now.machine))
 
 -- C-14: "In the K form, a non-zero L serves where it is at most K": the limit of the cell waited for
-abbrev pub waitedLimit : Moment → ℕ
-waitedLimit now = limitShown (waitedAt (account now).place) (shownBy now.machine)
+abbrev pub waited_limit : Moment → ℕ
+waited_limit now = limit_shown (waited_at (account now).place) (shown_by now.machine)
 
 abbrev pub serves : ℕ → ℕ → Bool
 serves k limit = not (eqb limit 0) && leb limit k
 
 -- "each messaged cell shows a reply or a final state at one of the first K polls after its message", or its limit serves: `spent` polls since its
 -- message have shown none, and one more that shows none is not yet the K-th. After the end nothing is asked
-unfoldable pub heardWithin : Manager → ℕ → ℕ → Moment → List Line → Bool
-heardWithin manager k spent now [] = true
-heardWithin manager k spent now (l ∷ ls) =
+unfoldable pub heard_within : Manager → ℕ → ℕ → Moment → List Line → Bool
+heard_within manager k spent now [] = true
+heard_within manager k spent now (l ∷ ls) =
     let after = next manager l now in
-    elim (accountEnded now) [
+    elim (account_ended now) [
       | true ↦ true
-      | false ↦ elim (isPoll l.event) [
-        | true ↦ elim (shows now || serves k (waitedLimit now)) [
-          | true ↦ heardWithin manager k 0 after ls
-          | false ↦ ltb (suc spent) k && heardWithin manager k (suc spent) after ls
+      | false ↦ elim (is_poll l.event) [
+        | true ↦ elim (shows now || serves k (waited_limit now)) [
+          | true ↦ heard_within manager k 0 after ls
+          | false ↦ ltb (suc spent) k && heard_within manager k (suc spent) after ls
         ]
-        | false ↦ heardWithin manager k spent after ls
+        | false ↦ heard_within manager k spent after ls
       ]
     ]

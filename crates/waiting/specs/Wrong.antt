@@ -8,129 +8,129 @@ use Rattle.machine_state.specs.declared.Answer.TheVariants.{Wait}
 use Rattle.machine_state.specs.declared.Event.TheVariants.{Call, Store, Fault, Exit, Poll, Malformed}
 use Rattle.machine_state.specs.declared.Machine.{Machine}
 use Rattle.machine_state.specs.declared.Stepped.{Stepped}
-use Rattle.rules.specs.State.{commAt, limitAt, withComm, withCpus, withWaiting, answered}
-use Rattle.rules.specs.Answers.{isNegative, isWait}
-use Rattle.rules.specs.Effects.{withMessage, withReply, cellDestroyed, cellCutOff}
-use Rattle.rules.specs.Asking.{message, shutdownRequest, consents, isDestroy, tell, carryOut, ask, finished, hear, isLastPoll, withPolls, cutsOff, stillWaits}
-use Rattle.rules.specs.Calls.{cellDestroy}
+use Rattle.rules.specs.State.{comm_at, limit_at, with_comm, with_cpus, with_waiting, answered}
+use Rattle.rules.specs.Answers.{is_negative, is_wait}
+use Rattle.rules.specs.Effects.{with_message, with_reply, cell_destroyed, cell_cut_off}
+use Rattle.rules.specs.Asking.{message, shutdown_request, consents, is_destroy, tell, carry_out, ask, finished, hear, is_last_poll, with_polls, cuts_off, still_waits}
+use Rattle.rules.specs.Calls.{cell_destroy}
 use Rattle.rules.specs.Step.{step}
 use Rattle.rules.specs.Run.{Manager}
 
 -- our step, changed at calls (code, first argument, the machine met, our step) and at polls (the record's bytes, the machine met, our step)
 unfoldable pub changed : (ℕ → ℕ → Machine → Stepped → Stepped) → (List ℕ → Machine → Stepped → Stepped) → Manager
-changed atCall atPoll (Call cpu code a1 a2) bytes m = atCall code a1 m (step (Call cpu code a1 a2) bytes m)
-changed atCall atPoll (Store cpu word value) bytes m = step (Store cpu word value) bytes m
-changed atCall atPoll (Fault cpu) bytes m = step (Fault cpu) bytes m
-changed atCall atPoll (Exit cpu kind) bytes m = step (Exit cpu kind) bytes m
-changed atCall atPoll Poll bytes m = atPoll bytes m (step Poll bytes m)
-changed atCall atPoll Malformed bytes m = step Malformed bytes m
+changed at_call at_poll (Call cpu code a1 a2) bytes m = at_call code a1 m (step (Call cpu code a1 a2) bytes m)
+changed at_call at_poll (Store cpu word value) bytes m = step (Store cpu word value) bytes m
+changed at_call at_poll (Fault cpu) bytes m = step (Fault cpu) bytes m
+changed at_call at_poll (Exit cpu kind) bytes m = step (Exit cpu kind) bytes m
+changed at_call at_poll Poll bytes m = at_poll bytes m (step Poll bytes m)
+changed at_call at_poll Malformed bytes m = step Malformed bytes m
 
-abbrev pub oursAtCall : ℕ → ℕ → Machine → Stepped → Stepped
-oursAtCall code a1 m s = s
+abbrev pub ours_at_call : ℕ → ℕ → Machine → Stepped → Stepped
+ours_at_call code a1 m s = s
 
 -- another machine with our answer, where a test passes
 unfoldable pub leaving : Bool → Machine → Stepped → Stepped
 leaving test m s = elim test [ true ↦ answered s.answer m | false ↦ s ]
 
 -- the cell waited for; 0 where no call waits
-unfoldable pub waitedCell : Waiting → ℕ
-waitedCell NoCall = 0
-waitedCell (Pending kind stage) = stage.cell
+unfoldable pub waited_cell : Waiting → ℕ
+waited_cell NoCall = 0
+waited_cell (Pending kind stage) = stage.cell
 
-abbrev pub waitedIn : Machine → ℕ
-waitedIn m = waitedCell m.waiting
+abbrev pub waited_in : Machine → ℕ
+waited_in m = waited_cell m.waiting
 
 -- ---- "one that destroys at the first step and then only stages the polls"
-unfoldable pub effectFirst : Manager
-effectFirst =
+unfoldable pub effect_first : Manager
+effect_first =
     changed
-    (λ code a1 m s. leaving (isWait s.answer && eqb code cellDestroy) (withComm a1 (commAt s.machine a1) (cellDestroyed a1 s.machine)) s)
-    (λ bytes m s. leaving true (withWaiting s.machine.waiting m) s)
+    (λ code a1 m s. leaving (is_wait s.answer && eqb code cell_destroy) (with_comm a1 (comm_at s.machine a1) (cell_destroyed a1 s.machine)) s)
+    (λ bytes m s. leaving true (with_waiting s.machine.waiting m) s)
 
 -- ---- "One that ends every wait early": a poll that would wait ends with 0
-unfoldable pub endsEarly : Manager
-endsEarly = changed oursAtCall (λ bytes m s. elim (isWait s.answer) [ true ↦ finished (pos 0) m | false ↦ s ])
+unfoldable pub ends_early : Manager
+ends_early = changed ours_at_call (λ bytes m s. elim (is_wait s.answer) [ true ↦ finished (pos 0) m | false ↦ s ])
 
 -- ---- "Accepting a reply left from an earlier message because from was not cleared"
-unfoldable pub replyKept : Machine → Stepped → Stepped
-replyKept m s =
-    let id = waitedIn s.machine in
-    leaving (isWait s.answer) (withComm id (withReply (commAt m id).reply_from_cell (commAt s.machine id)) s.machine) s
+unfoldable pub reply_kept : Machine → Stepped → Stepped
+reply_kept m s =
+    let id = waited_in s.machine in
+    leaving (is_wait s.answer) (with_comm id (with_reply (comm_at m id).reply_from_cell (comm_at s.machine id)) s.machine) s
 
-unfoldable pub staleReply : Manager
-staleReply = changed (λ code a1 m s. replyKept m s) (λ bytes m s. replyKept m s)
+unfoldable pub stale_reply : Manager
+stale_reply = changed (λ code a1 m s. reply_kept m s) (λ bytes m s. reply_kept m s)
 
 -- ---- a denial taken for consent: where the cell waited for denies, the call asks on
-unfoldable pub asksOn : Waiting → List ℕ → Machine → Stepped → Stepped
-asksOn NoCall bytes m s = s
-asksOn (Pending kind stage) bytes m s = ask kind stage.target stage.cell (cell_of bytes) m
+unfoldable pub asks_on : Waiting → List ℕ → Machine → Stepped → Stepped
+asks_on NoCall bytes m s = s
+asks_on (Pending kind stage) bytes m s = ask kind stage.target stage.cell (cell_of bytes) m
 
-unfoldable pub denialConsents : Manager
-denialConsents =
-    changed oursAtCall
-    (λ bytes m s. elim (isNegative s.answer && not (consents (commAt m (waitedIn m)))) [ true ↦ asksOn m.waiting bytes m s | false ↦ s ])
+unfoldable pub denial_consents : Manager
+denial_consents =
+    changed ours_at_call
+    (λ bytes m s. elim (is_negative s.answer && not (consents (comm_at m (waited_in m)))) [ true ↦ asks_on m.waiting bytes m s | false ↦ s ])
 
 -- ---- "Testing locks only before the wait": where the cell waited for consents, the effect comes
-unfoldable pub carriesOut : Waiting → List ℕ → Machine → Stepped → Stepped
-carriesOut NoCall bytes m s = s
-carriesOut (Pending kind stage) bytes m s = carryOut kind stage.target (cell_of bytes) m
+unfoldable pub carries_out : Waiting → List ℕ → Machine → Stepped → Stepped
+carries_out NoCall bytes m s = s
+carries_out (Pending kind stage) bytes m s = carry_out kind stage.target (cell_of bytes) m
 
-unfoldable pub locksBefore : Manager
-locksBefore =
-    changed oursAtCall
-    (λ bytes m s. elim (isNegative s.answer && consents (commAt m (waitedIn m))) [ true ↦ carriesOut m.waiting bytes m s | false ↦ s ])
+unfoldable pub locks_before : Manager
+locks_before =
+    changed ours_at_call
+    (λ bytes m s. elim (is_negative s.answer && consents (comm_at m (waited_in m))) [ true ↦ carries_out m.waiting bytes m s | false ↦ s ])
 
 -- ---- a cell messaged twice: a poll that waits on messages the cell that it looked at again
-unfoldable pub messagesTwice : Manager
-messagesTwice =
-    changed oursAtCall
-    (λ bytes m s. leaving (isWait s.answer) (withComm (waitedIn m) (message shutdownRequest (commAt s.machine (waitedIn m))) s.machine) s)
+unfoldable pub messages_twice : Manager
+messages_twice =
+    changed ours_at_call
+    (λ bytes m s. leaving (is_wait s.answer) (with_comm (waited_in m) (message shutdown_request (comm_at s.machine (waited_in m))) s.machine) s)
 
 -- ---- "Cells already heard are not changed back": a poll that goes on to another cell clears the words of the one that it heard
-unfoldable pub changesBack : Manager
-changesBack =
-    changed oursAtCall
-    (λ bytes m s. leaving (isWait s.answer && not (eqb (waitedIn m) (waitedIn s.machine)))
-    (withComm (waitedIn m) (withMessage 0 (withReply 0 (commAt s.machine (waitedIn m)))) s.machine) s)
+unfoldable pub changes_back : Manager
+changes_back =
+    changed ours_at_call
+    (λ bytes m s. leaving (is_wait s.answer && not (eqb (waited_in m) (waited_in s.machine)))
+    (with_comm (waited_in m) (with_message 0 (with_reply 0 (comm_at s.machine (waited_in m)))) s.machine) s)
 
 -- ---- telling before the effect: Destroy tells once its target consents, and has its effect when all are told
-unfoldable pub tellsOn : Waiting → Machine → Stepped → Stepped
-tellsOn NoCall m s = s
-tellsOn (Pending kind stage) m s =
-    elim (isDestroy kind && not (isNegative s.answer)) [
+unfoldable pub tells_on : Waiting → Machine → Stepped → Stepped
+tells_on NoCall m s = s
+tells_on (Pending kind stage) m s =
+    elim (is_destroy kind && not (is_negative s.answer)) [
       | true ↦ elim stage.telling [
-        | true ↦ elim (isWait s.answer) [ true ↦ s | false ↦ finished (pos 0) (cellDestroyed stage.target m) ]
-        | false ↦ elim (consents (commAt m stage.cell)) [ true ↦ tell kind stage.target stage.target m | false ↦ s ]
+        | true ↦ elim (is_wait s.answer) [ true ↦ s | false ↦ finished (pos 0) (cell_destroyed stage.target m) ]
+        | false ↦ elim (consents (comm_at m stage.cell)) [ true ↦ tell kind stage.target stage.target m | false ↦ s ]
       ]
       | false ↦ s
     ]
 
-unfoldable pub tellsFirst : Manager
-tellsFirst = changed oursAtCall (λ bytes m s. tellsOn m.waiting m s)
+unfoldable pub tells_first : Manager
+tells_first = changed ours_at_call (λ bytes m s. tells_on m.waiting m s)
 
 -- ---- the reply limit: it never cuts a cell off; the CPUs of the cell go on running; a reply at the limit's poll is lost
-unfoldable pub waitsOn : Waiting → Machine → Stepped → Stepped
-waitsOn NoCall m s = s
-waitsOn (Pending kind stage) m s = elim (cutsOff stage m) [ true ↦ answered (Wait stage.cell) (stillWaits kind stage m) | false ↦ s ]
+unfoldable pub waits_on : Waiting → Machine → Stepped → Stepped
+waits_on NoCall m s = s
+waits_on (Pending kind stage) m s = elim (cuts_off stage m) [ true ↦ answered (Wait stage.cell) (still_waits kind stage m) | false ↦ s ]
 
-unfoldable pub neverCutsOff : Manager
-neverCutsOff = changed oursAtCall (λ bytes m s. waitsOn m.waiting m s)
+unfoldable pub never_cuts_off : Manager
+never_cuts_off = changed ours_at_call (λ bytes m s. waits_on m.waiting m s)
 
-unfoldable pub runsOn : Waiting → Machine → Stepped → Stepped
-runsOn NoCall m s = s
-runsOn (Pending kind stage) m s = leaving (cutsOff stage m) (withCpus m.cpus s.machine) s
+unfoldable pub runs_on : Waiting → Machine → Stepped → Stepped
+runs_on NoCall m s = s
+runs_on (Pending kind stage) m s = leaving (cuts_off stage m) (with_cpus m.cpus s.machine) s
 
-unfoldable pub leavesRunning : Manager
-leavesRunning = changed oursAtCall (λ bytes m s. runsOn m.waiting m s)
+unfoldable pub leaves_running : Manager
+leaves_running = changed ours_at_call (λ bytes m s. runs_on m.waiting m s)
 
-unfoldable pub cutsAnyway : Waiting → List ℕ → Machine → Stepped → Stepped
-cutsAnyway NoCall bytes m s = s
-cutsAnyway (Pending kind stage) bytes m s =
-    elim (isLastPoll (limitAt m stage.cell) stage.polls) [ true ↦ hear kind stage (cell_of bytes) (cellCutOff stage.cell m) | false ↦ s ]
+unfoldable pub cuts_anyway : Waiting → List ℕ → Machine → Stepped → Stepped
+cuts_anyway NoCall bytes m s = s
+cuts_anyway (Pending kind stage) bytes m s =
+    elim (is_last_poll (limit_at m stage.cell) stage.polls) [ true ↦ hear kind stage (cell_of bytes) (cell_cut_off stage.cell m) | false ↦ s ]
 
-unfoldable pub losesReply : Manager
-losesReply = changed oursAtCall (λ bytes m s. cutsAnyway m.waiting bytes m s)
+unfoldable pub loses_reply : Manager
+loses_reply = changed ours_at_call (λ bytes m s. cuts_anyway m.waiting bytes m s)
 
 -- ---- a poll that waits counts though the cell has no limit
-unfoldable pub countsUnlimited : Manager
-countsUnlimited = changed oursAtCall (λ bytes m s. leaving (isWait s.answer) (withWaiting (withPolls 1 s.machine.waiting) s.machine) s)
+unfoldable pub counts_unlimited : Manager
+counts_unlimited = changed ours_at_call (λ bytes m s. leaving (is_wait s.answer) (with_waiting (with_polls 1 s.machine.waiting) s.machine) s)

@@ -1,6 +1,6 @@
 -- `apply::cut_off` meets its contract: the cell's words and its CPUs, stored in their places. Assumes nothing.
 use mathlib.Core.Path.{sym}
-use Rattle.rules.specs.State.{withCpus, withComm}
+use Rattle.rules.specs.State.{with_cpus, with_comm}
 use Rattle.effects.proofs.Applying.{uncut-stays}
 use Rattle.apply.proofs.Laws.{cut-stored}
 use borrow.Author.Rules.{rules}
@@ -8,7 +8,7 @@ use Rattle.apply.proofs.cut_off.Statement.{statement}
 use Rattle.apply.proofs.cut_off.Tie as tie
 
 returns : tie.Need-returns
-unfolding withCpus withComm
+unfolding with_cpus with_comm
 returns c =
     let words = c.before in
     let test = words.before.before.before in

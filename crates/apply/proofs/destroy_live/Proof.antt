@@ -1,13 +1,13 @@
 -- `apply::destroy_live` meets its contract: by whether the cell is live. Assumes nothing.
 use mathlib.Core.Path.{refl, sym, ◌∙◌}
-use Rattle.effects.specs.Parts.{isDisable}
+use Rattle.effects.specs.Parts.{is_disable}
 use Rattle.apply.proofs.Laws.{live-destroyed, absent-stays}
 use borrow.Author.Rules.{rules}
 use Rattle.apply.proofs.destroy_live.Statement.{statement}
 use Rattle.apply.proofs.destroy_live.Tie as tie
 
 returns : tie.Need-returns
-unfolding isDisable
+unfolding is_disable
 returns c ids =
     let live = c.before.before in
     live-destroyed _ _ ids _ _ (sym live.before.is_live.ensures ∙ live.if1.true) (c.on-cell.ensures refl)

@@ -4,15 +4,15 @@ use native.Mathlib.Numerals.{add-one-le}
 use Prim.Native.Nat.{◌-◌, ◌≤◌}
 use Rattle.base.specs.Lists.{from}
 use Rattle.machine_state.specs.declared.Power.TheVariants.{Disabled}
-use Rattle.rules.specs.State.{withPower, cellIds}
-use Rattle.rules.specs.Effects.{allDestroyed, disabled}
+use Rattle.rules.specs.State.{with_power, cell_ids}
+use Rattle.rules.specs.Effects.{all_destroyed, disabled}
 use Rattle.apply.proofs.Laws.{destroy-turn, destroy-end}
 use borrow.Author.Rules.{rules}
 use Rattle.apply.proofs.disable.Statement.{statement}
 use Rattle.apply.proofs.disable.Tie as tie
 
 abbrev invariant-loop : tie.invariant-loop
-invariant-loop m₀ i₀ m i = (i ≤ 16) × (allDestroyed (from i (16 - i)) m ≡ allDestroyed cellIds m₀)
+invariant-loop m₀ i₀ m i = (i ≤ 16) × (all_destroyed (from i (16 - i)) m ≡ all_destroyed cell_ids m₀)
 
 abbrev decreases-loop : tie.decreases-loop
 decreases-loop m₀ i₀ m i = 16 - i
@@ -29,7 +29,7 @@ returns : tie.Need-returns invariant-loop decreases-loop
 unfolding disabled
 returns c =
     let l = c.before.before.loop in
-    c.switch-off.ensures ∙ ap (withPower Disabled) (sym (destroy-end l.i _ c.before.loop-test.false) ∙ l.invariant.1)
+    c.switch-off.ensures ∙ ap (with_power Disabled) (sym (destroy-end l.i _ c.before.loop-test.false) ∙ l.invariant.1)
 
 pub disable-spec : {M : Type 1} → statement M
 disable-spec = tie.close (tie.spec invariant-loop decreases-loop loop-holds (λ c κs. tt) (λ c. search rules) (λ c. search rules) loop-again (λ c κs. tt) returns)

@@ -5,16 +5,16 @@ use borrow.Author.Rules.{rules}
 use Rattle.cell_record.specs.declared.CellConfig.{CellConfig}
 use Rattle.machine_state.specs.declared.Cell.{Cell}
 use Rattle.effects.specs.declared.CellChange.{CellChange}
-use Rattle.effects.specs.Parts.{changedCell, partsStored}
+use Rattle.effects.specs.Parts.{changed_cell, parts_stored}
 use Rattle.effects.proofs.Laws.{stored-is-effect}
 use Rattle.apply.proofs.on_cell.Statement.{statement}
 use Rattle.apply.proofs.on_cell.Tie as tie
 
-as-change : (change known : CellChange) (new : CellConfig) (c r : Cell) → r ≡ changedCell change new c → change ≡ known → r ≡ changedCell known new c
-as-change change known new c r e f = e ∙ ap (λ (x : CellChange). changedCell x new c) f
+as-change : (change known : CellChange) (new : CellConfig) (c r : Cell) → r ≡ changed_cell change new c → change ≡ known → r ≡ changed_cell known new c
+as-change change known new c r e f = e ∙ ap (λ (x : CellChange). changed_cell x new c) f
 
 returns : tie.Need-returns
-unfolding partsStored
+unfolding parts_stored
 returns c q =
     let words = c.before in
     let cell = words.before in

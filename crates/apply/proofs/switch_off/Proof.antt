@@ -1,11 +1,11 @@
 -- `apply::switch_off` meets its contract: it is the definition. Assumes nothing.
 use mathlib.Core.Path.{refl}
-use Rattle.rules.specs.State.{withPower}
+use Rattle.rules.specs.State.{with_power}
 use Rattle.apply.proofs.switch_off.Statement.{statement}
 use Rattle.apply.proofs.switch_off.Tie as tie
 
 returns : tie.Need-returns
-unfolding withPower
+unfolding with_power
 returns c = refl
 
 pub switch-off-spec : {M : Type 1} → statement M

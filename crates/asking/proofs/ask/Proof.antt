@@ -2,7 +2,7 @@
 use mathlib.Core.Path.{ap, ◌∙◌}
 use mathlib.Core.Bool.{Bool}
 use Prim.Native.Nat.{ℕ}
-use Rattle.rules.specs.Asking.{nextToMessage}
+use Rattle.rules.specs.Asking.{next_to_message}
 use Rattle.asking.proofs.Laws.{moves-as, asks-one, asks_none}
 use borrow.Author.Rules.{rules}
 use Rattle.asking.proofs.ask.Statement.{statement}
@@ -14,7 +14,7 @@ returns c =
     let whom = c.before.before.before.asked.ensures in
     moves-as c.wait-for.ensures (λ m h. tt)
     (λ m new h. asks-one a.kind a.target new m a.after _
-    (c.before.before.next-cell.ensures m h.sets.messageable ∙ ap (λ (p : ℕ → Bool). nextToMessage p a.after m) (λ i id. whom id i))
+    (c.before.before.next-cell.ensures m h.sets.messageable ∙ ap (λ (p : ℕ → Bool). next_to_message p a.after m) (λ i id. whom id i))
     c.before.if1.true)
 
 returns-2 : tie.Need-returns-2
@@ -23,7 +23,7 @@ returns-2 c =
     let whom = c.before.before.before.asked.ensures in
     moves-as c.none-to-ask.ensures (λ m h. h)
     (λ m new h. asks_none a.kind a.target new m a.after _
-    (c.before.before.next-cell.ensures m h.sets.messageable ∙ ap (λ (p : ℕ → Bool). nextToMessage p a.after m) (λ i id. whom id i))
+    (c.before.before.next-cell.ensures m h.sets.messageable ∙ ap (λ (p : ℕ → Bool). next_to_message p a.after m) (λ i id. whom id i))
     c.before.if1.false)
 
 pub ask-spec : {M : Type 1} → statement M

@@ -2,14 +2,14 @@
 use mathlib.Core.Path.{◌∙◌}
 use Rattle.rules.specs.Asking.{consents}
 use Rattle.comms.specs.Comms.{among}
-use Rattle.asking.specs.Moves.{effectOf}
+use Rattle.asking.specs.Moves.{effect_of}
 use Rattle.asking.proofs.Laws.{moves-as, tells-next, heard-telling, heard-consent, heard-denial, seen}
 use borrow.Author.Rules.{rules}
 use Rattle.asking.proofs.hear.Statement.{statement}
 use Rattle.asking.proofs.hear.Tie as tie
 
 returns : tie.Need-returns
-unfolding among effectOf
+unfolding among effect_of
 returns c =
     let a = c.before.before.before.args in
     moves-as c.tell-next.ensures (λ m h. tt)

@@ -2,7 +2,7 @@
 use mathlib.Core.Path.{refl, ◌∙◌}
 use mir.Syntax.{w32}
 use mir.Facts.{to_z-of_z}
-use Rattle.rules.specs.Effects.{counted, callCounter}
+use Rattle.rules.specs.Effects.{counted, call_counter}
 use Rattle.calls.proofs.Calls.{calls_by, counted-parts, with-sets, with-waiting, code-disable, code-create, code-start, code-loadable, code-destroy, at_code}
 use borrow.Author.Rules.{rules}
 use Rattle.calls.proofs.by_code.Statement.{statement}
@@ -20,7 +20,7 @@ returns-2 c bytes =
     let a = entry.args in
     let made = c.create-call.ensures a.cpu bytes in
     record {
-      moves = λ m h. made.moves (counted callCounter a.cpu m)
+      moves = λ m h. made.moves (counted call_counter a.cpu m)
           (with-waiting 1 refl c.before.if2.true h, to_z-of_z {w = w32} {z = a.scan} entry.ranges.scan ∙ h.scan c.before.if2.true)
           ∙ code-create a.cpu a.a1 a.a2 _ _ ∙ at_code a.cpu a.a1 a.a2 _ _ c.before.if2.true;
       place = made.place;

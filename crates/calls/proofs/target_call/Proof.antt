@@ -3,7 +3,7 @@ use mathlib.Core.Bool.{Bool, not, ◌&&◌}
 use mathlib.Core.Path.{◌≡◌, sym, ap, ap₂, ◌∙◌}
 use Prim.Native.Nat.{ℕ}
 use Rattle.machine_state.specs.declared.Machine.{Machine}
-use Rattle.rules.specs.State.{hasId, live}
+use Rattle.rules.specs.State.{has_id, live}
 use Rattle.calls.proofs.Calls.{target-root, target-absent, target-locked, target-asks}
 use Rattle.asking.proofs.Laws.{moves-as}
 use borrow.Author.Rules.{rules}
@@ -11,8 +11,8 @@ use Rattle.calls.proofs.target_call.Statement.{statement}
 use Rattle.calls.proofs.target_call.Tie as tie
 
 -- what the code found of the live IDs, it found of the machine's
-absent : (m : Machine) (id ids : ℕ) (found b : Bool) → m.live_ids ≡ ids → found ≡ hasId ids id → not found ≡ b → not (live m id) ≡ b
-absent m id ids found b e f t = ap (λ (l : ℕ). not (hasId l id)) e ∙ sym (ap not f) ∙ t
+absent : (m : Machine) (id ids : ℕ) (found b : Bool) → m.live_ids ≡ ids → found ≡ has_id ids id → not found ≡ b → not (live m id) ≡ b
+absent m id ids found b e f t = ap (λ (l : ℕ). not (has_id l id)) e ∙ sym (ap not f) ∙ t
 
 returns : tie.Need-returns
 returns c =

@@ -3,7 +3,7 @@ use mathlib.Core.Path.{◌≡◌, refl, ◌∙◌}
 use Prim.Native.Nat.{◌≤◌, ◌-◌}
 use native.Mathlib.Omega.{arith}
 use lib.ListN.{length, length-set}
-use Rattle.region_table.specs.Tables.{maxRegions, regionAt}
+use Rattle.region_table.specs.Tables.{max_regions, region_at}
 use Rattle.region_table.proofs.Laws.{Filled, filled_none, filled_more, filled-all}
 use Rattle.cell_record.specs.CellRecord.{cell_of}
 use borrow.Author.Rules.{rules}
@@ -11,7 +11,7 @@ use Rattle.cell_record.proofs.cell_table.Statement.{statement}
 use Rattle.cell_record.proofs.cell_table.Tie as tie
 
 abbrev invariant-loop : tie.invariant-loop
-invariant-loop s n table₀ i₀ table i = (i ≤ n) × (length table ≡ maxRegions) × Filled maxRegions 56 s i table
+invariant-loop s n table₀ i₀ table i = (i ≤ n) × (length table ≡ max_regions) × Filled max_regions 56 s i table
 
 abbrev decreases-loop : tie.decreases-loop
 decreases-loop s n table₀ i₀ table i = n - i
@@ -20,7 +20,7 @@ loop-holds : tie.Need-loop-init invariant-loop decreases-loop
 loop-holds c = (search rules, refl, filled_none _ _ _ _ c.no-region.ensures)
 
 loop-again : tie.Need-loop-preserved invariant-loop decreases-loop
-unfolding regionAt
+unfolding region_at
 loop-again c =
     let l = c.before.before.loop in (
       search rules,

@@ -6,7 +6,7 @@ use native.Mathlib.Omega.{arith}
 use Rattle.base.specs.Lists.{any}
 use Rattle.regions.specs.declared.MemRegion.{MemRegion}
 use Rattle.regions.specs.Regions.{comm}
-use Rattle.region_table.specs.Tables.{regionsOf}
+use Rattle.region_table.specs.Tables.{regions_of}
 use Rattle.region_table.proofs.Laws.{any-no-region, any-regions}
 use Rattle.cell_record.proofs.Laws.{record-regions}
 use borrow.Author.Rules.{rules}
@@ -14,7 +14,7 @@ use Rattle.cell_record.proofs.has_comm.Statement.{statement}
 use Rattle.cell_record.proofs.has_comm.Tie as tie
 
 abbrev invariant-loop : tie.invariant-loop
-invariant-loop s n found₀ i₀ found i = (i ≤ n) × (found ≡ any comm (regionsOf 56 i s))
+invariant-loop s n found₀ i₀ found i = (i ≤ n) × (found ≡ any comm (regions_of 56 i s))
 
 abbrev decreases-loop : tie.decreases-loop
 decreases-loop s n found₀ i₀ found i = n - i
@@ -36,7 +36,7 @@ returns c =
     let l = c.before.loop in
     let n = c.before.before.region-count in
     let end : l.i ≡ n.result = omega arith in
-    l.invariant.1 ∙ ap (λ (k : ℕ). any comm (regionsOf 56 k a.s.now)) (end ∙ n.ensures) ∙ ap (any comm) (sym (record-regions a.s.now))
+    l.invariant.1 ∙ ap (λ (k : ℕ). any comm (regions_of 56 k a.s.now)) (end ∙ n.ensures) ∙ ap (any comm) (sym (record-regions a.s.now))
 
 pub has-comm-spec : {M : Type 1} → statement M
 has-comm-spec = tie.close (tie.spec invariant-loop decreases-loop (λ c κs. tt) loop-holds (λ c κs. tt) (λ c κs. tt) (λ c. search rules) (λ c. search rules) loop-again returns)

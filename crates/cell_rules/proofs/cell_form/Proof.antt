@@ -5,14 +5,14 @@ use Prim.Native.Nat.{◌+◌, ◌*◌}
 use lib.Dec.{leb, ltb, eqb}
 use lib.ListN.{length}
 use Rattle.fields.specs.Fields.{zeros}
-use Rattle.region_table.specs.Tables.{maxRegions}
-use Rattle.cell_record.specs.CellRecord.{cellForm}
+use Rattle.region_table.specs.Tables.{max_regions}
+use Rattle.cell_record.specs.CellRecord.{cell_form}
 use borrow.Author.Rules.{rules}
 use Rattle.cell_rules.proofs.cell_form.Statement.{statement}
 use Rattle.cell_rules.proofs.cell_form.Tie as tie
 
 returns : tie.Need-returns
-unfolding cellForm
+unfolding cell_form
 returns c =
     let limit = c.before.before in
     let flags = limit.before in
@@ -28,7 +28,7 @@ returns c =
     && zero-3 i
     && version.version-ok.ensures i
     && ltb (flags.u16-at2.ensures i) 2
-    && leb (n i) maxRegions
+    && leb (n i) max_regions
     && limit.limit-ok.ensures i
     && zero-52 i
     && eqb (length r) (56 + 32 * n i)

@@ -3,12 +3,12 @@ use mathlib.Core.Path.{ap, ◌∙◌}
 use mathlib.Core.Bool.{◌||◌}
 use lib.Dec.{eqb}
 use Rattle.fields.specs.Fields.{zeros}
-use Rattle.cell_record.specs.CellRecord.{limitOk}
+use Rattle.cell_record.specs.CellRecord.{limit_ok}
 use Rattle.cell_rules.proofs.limit_ok.Statement.{statement}
 use Rattle.cell_rules.proofs.limit_ok.Tie as tie
 
 returns : tie.Need-returns
-unfolding limitOk
+unfolding limit_ok
 returns c =
     let zero = c.is_zero.ensures ∙ ap zeros c.before.part.ensures in
     λ i. eqb (c.before.before.u16-at.ensures i) 2 || zero i

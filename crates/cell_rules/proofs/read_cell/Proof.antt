@@ -3,12 +3,12 @@
 use mathlib.Core.Path.{◌∙◌}
 use mir.Syntax.{w32}
 use mir.Facts.{to_z-of_z}
-use Rattle.cell_record.specs.CellRecord.{readCell}
+use Rattle.cell_record.specs.CellRecord.{read_cell}
 use Rattle.cell_rules.proofs.read_cell.Statement.{statement}
 use Rattle.cell_rules.proofs.read_cell.Tie as tie
 
 returns : tie.Need-returns
-unfolding readCell
+unfolding read_cell
 returns c =
     let code = to_z-of_z {w = w32} {z = c.cell-answer.result} (record { sfits = c.cell-answer.type-inv }) ∙ c.cell-answer.ensures in
     λ i. record { code = code i; config = c.before.cell-of.ensures i }

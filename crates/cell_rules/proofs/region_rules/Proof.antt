@@ -12,7 +12,7 @@ returns c =
     let flags = form.before in
     let placed = flags.before in
     region-free placed.before.before.args.boot placed.before.before.args.r _ _ _ _ _ _ placed.is-placed.ensures flags.flags-ok.ensures form.comm-ok.ensures clear.Clear-of.ensures
-    loadable.is-loadable.ensures shared.is-shared.ensures c.if1.true
+    loadable.is-loadable.ensures shared.is_shared.ensures c.if1.true
 
 returns-2 : tie.Need-returns-2
 returns-2 c =
@@ -24,7 +24,7 @@ returns-2 c =
     let flags = form.before in
     let placed = flags.before in
     region-tied placed.before.before.args.boot placed.before.before.args.r _ _ _ _ _ _ placed.is-placed.ensures flags.flags-ok.ensures form.comm-ok.ensures clear.Clear-of.ensures
-    loadable.is-loadable.ensures shared.is-shared.ensures _ c.inside_one.ensures tied.if1.false
+    loadable.is-loadable.ensures shared.is_shared.ensures _ c.inside_one.ensures tied.if1.false
 
 pub region-rules-spec : {M : Type 1} → statement M
 region-rules-spec = tie.close (tie.spec (λ c κs. tt) (λ c κs. tt) (λ c κs. tt) (λ c κs. tt) (λ c κs. tt) (λ c κs. tt) returns (λ c κs. tt) returns-2)

@@ -5,8 +5,8 @@ use Prim.Native.Nat.{ℕ, ◌≤◌, ◌-◌}
 use native.Mathlib.Omega.{arith}
 use Rattle.base.specs.Lists.{all}
 use Rattle.regions.specs.declared.MemRegion.{MemRegion}
-use Rattle.cell_record.specs.CellRecord.{cellRegionOk}
-use Rattle.region_table.specs.Tables.{regionsOf}
+use Rattle.cell_record.specs.CellRecord.{cell_region_ok}
+use Rattle.region_table.specs.Tables.{regions_of}
 use Rattle.region_table.proofs.Laws.{all-no-region, all-regions}
 use Rattle.cell_record.proofs.Laws.{record-regions}
 use borrow.Author.Rules.{rules}
@@ -14,7 +14,7 @@ use Rattle.cell_rules.proofs.regions_ok.Statement.{statement}
 use Rattle.cell_rules.proofs.regions_ok.Tie as tie
 
 abbrev invariant-loop : tie.invariant-loop
-invariant-loop boot s n ok₀ i₀ ok i = (i ≤ n) × (ok ≡ all (cellRegionOk boot) (regionsOf 56 i s))
+invariant-loop boot s n ok₀ i₀ ok i = (i ≤ n) × (ok ≡ all (cell_region_ok boot) (regions_of 56 i s))
 
 abbrev decreases-loop : tie.decreases-loop
 decreases-loop boot s n ok₀ i₀ ok i = n - i
@@ -27,7 +27,7 @@ loop-again c =
     let a = c.before.before.before.before.before.before.args in
     let l = c.before.before.before.loop in (
       search rules,
-      all-regions _ _ l.i (cellRegionOk a.boot) _ _ l.invariant.1 (c.cell-region-ok.ensures ∙ ap (cellRegionOk a.boot) c.before.region.ensures),
+      all-regions _ _ l.i (cell_region_ok a.boot) _ _ l.invariant.1 (c.cell-region-ok.ensures ∙ ap (cell_region_ok a.boot) c.before.region.ensures),
     )
 
 returns : tie.Need-returns invariant-loop decreases-loop
@@ -36,7 +36,7 @@ returns c =
     let l = c.before.loop in
     let n = c.before.before.region-count in
     let end : l.i ≡ n.result = omega arith in
-    l.invariant.1 ∙ ap (λ (k : ℕ). all (cellRegionOk a.boot) (regionsOf 56 k a.s.now)) (end ∙ n.ensures) ∙ ap (all (cellRegionOk a.boot)) (sym (record-regions a.s.now))
+    l.invariant.1 ∙ ap (λ (k : ℕ). all (cell_region_ok a.boot) (regions_of 56 k a.s.now)) (end ∙ n.ensures) ∙ ap (all (cell_region_ok a.boot)) (sym (record-regions a.s.now))
 
 pub regions-ok-spec : {M : Type 1} → statement M
 regions-ok-spec = tie.close (tie.spec invariant-loop decreases-loop (λ c κs. tt) loop-holds (λ c κs. tt) (λ c κs. tt) (λ c. search rules) (λ c. search rules) loop-again returns)

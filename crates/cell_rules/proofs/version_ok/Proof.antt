@@ -3,12 +3,12 @@ use mathlib.Core.Path.{ap}
 use mathlib.Core.Bool.{◌||◌}
 use Prim.Native.Nat.{ℕ}
 use lib.Dec.{eqb}
-use Rattle.cell_record.specs.CellRecord.{versionOk}
+use Rattle.cell_record.specs.CellRecord.{version_ok}
 use Rattle.cell_rules.proofs.version_ok.Statement.{statement}
 use Rattle.cell_rules.proofs.version_ok.Tie as tie
 
 returns : tie.Need-returns
-unfolding versionOk
+unfolding version_ok
 returns c = ap (λ (n : ℕ). eqb n 1 || eqb n 2) c.u16-at.ensures
 
 pub version-ok-spec : {M : Type 1} → statement M

@@ -2,7 +2,7 @@
 use mathlib.Core.Bool.{Bool}
 use mathlib.Core.Path.{sym, ap, ◌∙◌}
 use Prim.Native.Nat.{ℕ, ◌+◌}
-use Rattle.comms.specs.Sets.{addWhere}
+use Rattle.comms.specs.Sets.{add_where}
 use Rattle.comms.proofs.Sets.{id-bit, bit-fits}
 use borrow.Author.Rules.{rules}
 use Rattle.comms.proofs.add_where.Statement.{statement}
@@ -14,10 +14,10 @@ add-result c = let a = c.before in search (rules, bit-fits a.args.id a.args.ids 
 returns : tie.Need-returns
 returns c =
     let a = c.before in
-    ap (λ (n : ℕ). a.args.ids + n) (id-bit a.args.id a.requires.0) ∙ sym (ap (λ (b : Bool). addWhere b a.args.ids a.args.id) c.if1.true)
+    ap (λ (n : ℕ). a.args.ids + n) (id-bit a.args.id a.requires.0) ∙ sym (ap (λ (b : Bool). add_where b a.args.ids a.args.id) c.if1.true)
 
 returns-2 : tie.Need-returns-2
-returns-2 c = let a = c.before.args in sym (ap (λ (b : Bool). addWhere b a.ids a.id) c.if1.false)
+returns-2 c = let a = c.before.args in sym (ap (λ (b : Bool). add_where b a.ids a.id) c.if1.false)
 
 pub add-where-spec : {M : Type 1} → statement M
 add-where-spec = tie.close (tie.spec (λ c. search rules) (λ c. search rules) add-result returns returns-2)

@@ -3,15 +3,15 @@ use mathlib.Core.Bool.{Bool, ◌||◌}
 use mathlib.Core.Path.{◌≡◌, ap}
 use lib.Dec.{eqb}
 use Rattle.machine_state.specs.declared.CommRegion.{CommRegion}
-use Rattle.rules.specs.State.{isFinal}
-use Rattle.rules.specs.Asking.{consents, requestApproved}
+use Rattle.rules.specs.State.{is_final}
+use Rattle.rules.specs.Asking.{consents, request_approved}
 use borrow.Author.Rules.{rules}
 use Rattle.comms.proofs.consents.Statement.{statement}
 use Rattle.comms.proofs.consents.Tie as tie
 
-consented : (w : CommRegion) (final : Bool) → final ≡ isFinal w.cell_state → (final || eqb w.reply_from_cell requestApproved) ≡ consents w
+consented : (w : CommRegion) (final : Bool) → final ≡ is_final w.cell_state → (final || eqb w.reply_from_cell request_approved) ≡ consents w
 unfolding consents
-consented w final e = ap (λ (b : Bool). b || eqb w.reply_from_cell requestApproved) e
+consented w final e = ap (λ (b : Bool). b || eqb w.reply_from_cell request_approved) e
 
 returns : tie.Need-returns
 returns c = consented _ _ c.before.is-final.ensures

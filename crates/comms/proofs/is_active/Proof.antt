@@ -5,18 +5,18 @@ use Prim.Native.Nat.{ℕ}
 use lib.Dec.{eqb}
 use Rattle.machine_state.specs.declared.CommRegion.{CommRegion}
 use Rattle.machine_state.specs.declared.Machine.{Machine}
-use Rattle.rules.specs.State.{rootId, hasId, commAt, isFinal, active}
+use Rattle.rules.specs.State.{root_id, has_id, comm_at, is_final, active}
 use borrow.Author.Rules.{rules}
 use Rattle.comms.proofs.is_active.Statement.{statement}
 use Rattle.comms.proofs.is_active.Tie as tie
 
-here : (ids id : ℕ) (w : CommRegion) (live final : Bool) → live ≡ hasId ids id → final ≡ isFinal w.cell_state
-    → (m : Machine) → m.live_ids ≡ ids → commAt m id ≡ w → (not (eqb id rootId) && live && not final) ≡ active m id
+here : (ids id : ℕ) (w : CommRegion) (live final : Bool) → live ≡ has_id ids id → final ≡ is_final w.cell_state
+    → (m : Machine) → m.live_ids ≡ ids → comm_at m id ≡ w → (not (eqb id root_id) && live && not final) ≡ active m id
 unfolding active
 here ids id w live final l s m e f =
-    ap₂ (λ (x y : Bool). not (eqb id rootId) && x && not y)
-    (l ∙ ap (λ (n : ℕ). hasId n id) (sym e))
-    (s ∙ ap (λ (v : CommRegion). isFinal v.cell_state) (sym f))
+    ap₂ (λ (x y : Bool). not (eqb id root_id) && x && not y)
+    (l ∙ ap (λ (n : ℕ). has_id n id) (sym e))
+    (s ∙ ap (λ (v : CommRegion). is_final v.cell_state) (sym f))
 
 returns : tie.Need-returns
 returns c = here _ _ _ _ _ c.before.is_live.ensures c.is-final.ensures

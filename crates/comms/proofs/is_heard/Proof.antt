@@ -3,14 +3,14 @@ use mathlib.Core.Bool.{Bool, not, ◌||◌}
 use mathlib.Core.Path.{◌≡◌, ap}
 use lib.Dec.{eqb}
 use Rattle.machine_state.specs.declared.CommRegion.{CommRegion}
-use Rattle.rules.specs.State.{isFinal}
-use Rattle.rules.specs.Asking.{isHeard}
+use Rattle.rules.specs.State.{is_final}
+use Rattle.rules.specs.Asking.{is_heard}
 use borrow.Author.Rules.{rules}
 use Rattle.comms.proofs.is_heard.Statement.{statement}
 use Rattle.comms.proofs.is_heard.Tie as tie
 
-heard : (w : CommRegion) (final : Bool) → final ≡ isFinal w.cell_state → (not (eqb w.reply_from_cell 0) || final) ≡ isHeard w
-unfolding isHeard
+heard : (w : CommRegion) (final : Bool) → final ≡ is_final w.cell_state → (not (eqb w.reply_from_cell 0) || final) ≡ is_heard w
+unfolding is_heard
 heard w final e = ap (λ (b : Bool). not (eqb w.reply_from_cell 0) || b) e
 
 returns : tie.Need-returns

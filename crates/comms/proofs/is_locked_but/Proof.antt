@@ -6,9 +6,9 @@ use Prim.Native.Nat.{ℕ, ◌-◌, ◌<◌, ◌≤◌}
 use native.Mathlib.Omega.{arith}
 use lib.Dec.{eqb}
 use Rattle.machine_state.specs.declared.Machine.{Machine}
-use Rattle.rules.specs.State.{active, stateAt, isLocked, idsWhere}
-use Rattle.rules.specs.Create.{otherCellLocked}
-use Rattle.comms.specs.Sets.{hasLocked}
+use Rattle.rules.specs.State.{active, state_at, is_locked, ids_where}
+use Rattle.rules.specs.Create.{other_cell_locked}
+use Rattle.comms.specs.Sets.{has_locked}
 use Rattle.id_set.proofs.Laws.{any_from, any-start, any-turn, any-all}
 use Rattle.id_set.proofs.Ids.{has-picked}
 use borrow.Author.Rules.{rules}
@@ -16,12 +16,12 @@ use Rattle.comms.proofs.is_locked_but.Statement.{statement}
 use Rattle.comms.proofs.is_locked_but.Tie as tie
 
 abbrev lock : ℕ → Machine → ℕ → Bool
-lock except m id = active m id && not (eqb id except) && isLocked (stateAt m id)
+lock except m id = active m id && not (eqb id except) && is_locked (state_at m id)
 
 -- a cell's own test, from what the code found of it
-here : (except : ℕ) (m : Machine) (id : ℕ) (found : Bool) → found ≡ hasLocked m id → (found && not (eqb id except)) ≡ lock except m id
-unfolding hasLocked
-here except m id found e = ap (λ (b : Bool). b && not (eqb id except)) e ∙ last (active m id) (isLocked (stateAt m id)) (not (eqb id except))
+here : (except : ℕ) (m : Machine) (id : ℕ) (found : Bool) → found ≡ has_locked m id → (found && not (eqb id except)) ≡ lock except m id
+unfolding has_locked
+here except m id found e = ap (λ (b : Bool). b && not (eqb id except)) e ∙ last (active m id) (is_locked (state_at m id)) (not (eqb id except))
   where
     last : (a b c : Bool) → ((a && b) && c) ≡ (a && c && b)
     last true true true = refl
@@ -32,7 +32,7 @@ here except m id found e = ap (λ (b : Bool). b && not (eqb id except)) e ∙ la
 
 abbrev invariant-loop : tie.invariant-loop
 invariant-loop ids except found₀ i₀ found i =
-    (1 ≤ i) × (i ≤ 16) × ((m : Machine) → ids ≡ idsWhere (hasLocked m) → found ≡ any_from (lock except m) i)
+    (1 ≤ i) × (i ≤ 16) × ((m : Machine) → ids ≡ ids_where (has_locked m) → found ≡ any_from (lock except m) i)
 
 abbrev decreases-loop : tie.decreases-loop
 decreases-loop ids except found₀ i₀ found i = i
@@ -51,11 +51,11 @@ loop-again c =
       omega arith,
       omega arith,
       (λ m e. any-turn _ l.i low high _ _ (l.invariant.2 m e)
-          (here a.except m k _ (has-picked a.locked k (hasLocked m) _ inside e c.is_live.ensures))),
+          (here a.except m k _ (has-picked a.locked k (has_locked m) _ inside e c.is_live.ensures))),
     )
 
 returns : tie.Need-returns invariant-loop decreases-loop
-unfolding otherCellLocked
+unfolding other_cell_locked
 returns c = let l = c.before.loop in λ m e. l.invariant.2 m e ∙ any-all _ l.i l.invariant.0 (omega arith)
 
 pub is-locked-but-spec : {M : Type 1} → statement M

@@ -5,21 +5,21 @@ use Prim.Native.Nat.{ℕ, ◌-◌, ◌<◌, ◌≤◌}
 use native.Mathlib.Omega.{arith}
 use Rattle.machine_state.specs.declared.CommRegion.{CommRegion}
 use Rattle.machine_state.specs.declared.Machine.{Machine}
-use Rattle.rules.specs.State.{active, commAt, isLocked}
-use Rattle.comms.specs.Sets.{hasLocked}
+use Rattle.rules.specs.State.{active, comm_at, is_locked}
+use Rattle.comms.specs.Sets.{has_locked}
 use Rattle.comms.proofs.Sets.{Gathers, gathers-none, gathers-more, gathers-all}
 use borrow.Author.Rules.{rules}
 use Rattle.comms.proofs.locked.Statement.{statement}
 use Rattle.comms.proofs.locked.Tie as tie
 
 -- a cell's own test, from what the code found of it
-here : (m : Machine) (id : ℕ) (w : CommRegion) (is-active : Bool) → commAt m id ≡ w → is-active ≡ active m id
-    → (is-active && isLocked w.cell_state) ≡ hasLocked m id
-unfolding hasLocked
+here : (m : Machine) (id : ℕ) (w : CommRegion) (is-active : Bool) → comm_at m id ≡ w → is-active ≡ active m id
+    → (is-active && is_locked w.cell_state) ≡ has_locked m id
+unfolding has_locked
 here m id w a f p = rw (p, ← f)
 
 abbrev invariant-loop : tie.invariant-loop
-invariant-loop wanted live comms ids₀ i₀ ids i = Gathers hasLocked live comms ids i
+invariant-loop wanted live comms ids₀ i₀ ids i = Gathers has_locked live comms ids i
 
 abbrev decreases-loop : tie.decreases-loop
 decreases-loop wanted live comms ids₀ i₀ ids i = 16 - i

@@ -5,21 +5,21 @@ use Prim.Native.Nat.{ℕ, ◌-◌, ◌<◌, ◌≤◌}
 use native.Mathlib.Omega.{arith}
 use Rattle.machine_state.specs.declared.CommRegion.{CommRegion}
 use Rattle.machine_state.specs.declared.Machine.{Machine}
-use Rattle.rules.specs.State.{active, commAt}
-use Rattle.rules.specs.Asking.{mayBeMessaged}
+use Rattle.rules.specs.State.{active, comm_at}
+use Rattle.rules.specs.Asking.{may_be_messaged}
 use Rattle.comms.proofs.Sets.{Gathers, gathers-none, gathers-more, gathers-all}
 use borrow.Author.Rules.{rules}
 use Rattle.comms.proofs.messageable.Statement.{statement}
 use Rattle.comms.proofs.messageable.Tie as tie
 
 -- a cell's own test, from what the code found of it
-here : (m : Machine) (id : ℕ) (w : CommRegion) (is-active : Bool) → commAt m id ≡ w → is-active ≡ active m id
-    → (is-active && not w.passive) ≡ mayBeMessaged m id
-unfolding mayBeMessaged
+here : (m : Machine) (id : ℕ) (w : CommRegion) (is-active : Bool) → comm_at m id ≡ w → is-active ≡ active m id
+    → (is-active && not w.passive) ≡ may_be_messaged m id
+unfolding may_be_messaged
 here m id w a f p = rw (p, ← f)
 
 abbrev invariant-loop : tie.invariant-loop
-invariant-loop wanted live comms ids₀ i₀ ids i = Gathers mayBeMessaged live comms ids i
+invariant-loop wanted live comms ids₀ i₀ ids i = Gathers may_be_messaged live comms ids i
 
 abbrev decreases-loop : tie.decreases-loop
 decreases-loop wanted live comms ids₀ i₀ ids i = 16 - i

@@ -5,22 +5,22 @@ use Prim.Native.Nat.{ℕ, ◌-◌, ◌<◌, ◌≤◌}
 use native.Mathlib.Omega.{arith}
 use lib.Dec.{ltb}
 use Rattle.machine_state.specs.declared.Machine.{Machine}
-use Rattle.rules.specs.State.{idsWhere}
-use Rattle.rules.specs.Asking.{mayBeMessaged, nextToMessage}
+use Rattle.rules.specs.State.{ids_where}
+use Rattle.rules.specs.Asking.{may_be_messaged, next_to_message}
 use Rattle.comms.specs.Comms.{among}
 use Rattle.comms.specs.declared.Whom.{Whom}
-use Rattle.id_set.proofs.Laws.{firstFrom, first-start, first-turn, first-all}
+use Rattle.id_set.proofs.Laws.{first_from, first-start, first-turn, first-all}
 use Rattle.id_set.proofs.Ids.{has-picked}
 use borrow.Author.Rules.{rules}
 use Rattle.comms.proofs.next_cell.Statement.{statement}
 use Rattle.comms.proofs.next_cell.Tie as tie
 
 abbrev next : Whom → ℕ → Machine → ℕ → Bool
-next whom after m id = ltb after id && among whom id && mayBeMessaged m id
+next whom after m id = ltb after id && among whom id && may_be_messaged m id
 
 abbrev invariant-loop : tie.invariant-loop
 invariant-loop ids whom after found₀ i₀ found i =
-    (1 ≤ i) × (i ≤ 16) × ((m : Machine) → ids ≡ idsWhere (mayBeMessaged m) → found ≡ firstFrom (next whom after m) i)
+    (1 ≤ i) × (i ≤ 16) × ((m : Machine) → ids ≡ ids_where (may_be_messaged m) → found ≡ first_from (next whom after m) i)
 
 abbrev decreases-loop : tie.decreases-loop
 decreases-loop ids whom after found₀ i₀ found i = i
@@ -42,11 +42,11 @@ loop-again c =
       (λ m e. c.choose.ensures
           ∙ first-turn _ l.i low high _ _ (l.invariant.2 m e)
           (ap₂ (λ (x y : Bool). ltb a.after k && x && y) c.before.is_among.ensures
-          (has-picked a.messageable k (mayBeMessaged m) _ inside e seen.is_live.ensures))),
+          (has-picked a.messageable k (may_be_messaged m) _ inside e seen.is_live.ensures))),
     )
 
 returns : tie.Need-returns invariant-loop decreases-loop
-unfolding nextToMessage
+unfolding next_to_message
 returns c = let l = c.before.loop in λ m e. l.invariant.2 m e ∙ first-all _ l.i l.invariant.0 (omega arith)
 
 pub next-cell-spec : {M : Type 1} → statement M

@@ -6,7 +6,7 @@ use Rattle.base.specs.Lists.{up_to}
 use Rattle.base.proofs.Lists.{all_same}
 use Rattle.cpu_set.specs.CpuSet.{meets, is_empty}
 use Rattle.base.proofs.Lists.{any-not-all}
-use Rattle.cpu_set.proofs.Laws.{zero-isEmpty, member-and}
+use Rattle.cpu_set.proofs.Laws.{zero-is_empty, member-and}
 use Rattle.cpu_set.proofs.intersects.Statement.{statement}
 use Rattle.cpu_set.proofs.intersects.Tie as tie
 
@@ -16,7 +16,7 @@ returns c =
     let a = c.args.a in
     let b = c.args.b in
     ap not
-    (zero-isEmpty (bit_and a b) (and_lt 64 a b c.ranges.a.fits c.ranges.b.fits)
+    (zero-is_empty (bit_and a b) (and_lt 64 a b c.ranges.a.fits c.ranges.b.fits)
     ∙ all_same _ _ (λ k. ap not (member-and k a b)) (up_to 64))
     ∙ sym (any-not-all _ (up_to 64))
 

@@ -7,29 +7,29 @@ use native.Mathlib.Omega.{arith}
 use lib.Dec.{T, T_not, not_T, eqb, ltb, lt→ltb, ltb→lt}
 use lib.Pow.{shr_le}
 use Rattle.base.proofs.Tests.{equal-tests}
-use Rattle.base.proofs.Lists.{upTo-intro, upTo-elim}
+use Rattle.base.proofs.Lists.{up_to-intro, up_to-elim}
 use Rattle.cpu_set.specs.CpuSet.{member, is_empty, below}
 use Rattle.base.proofs.Tests.{implies-intro, implies-elim}
-use Rattle.cpu_set.proofs.Laws.{zero-isEmpty, member-lt, member-shr, shr_high}
+use Rattle.cpu_set.proofs.Laws.{zero-is_empty, member-lt, member-shr, shr_high}
 use Rattle.cpu_set.proofs.is_below.Statement.{statement}
 use Rattle.cpu_set.proofs.is_below.Tie as tie
 
 shifted : (a n : ℕ) → a < 2 ^ 64 → eqb (a / 2 ^ n) 0 ≡ below a n
 unfolding is_empty below
 shifted a n h =
-    zero-isEmpty (a / 2 ^ n) (lt_of_le_of_lt (shr_le a n) h)
+    zero-is_empty (a / 2 ^ n) (lt_of_le_of_lt (shr_le a n) h)
     ∙ equal-tests (is_empty (a / 2 ^ n)) (below a n)
-    (λ t. upTo-intro _ 64 (λ k l. implies-intro (member k a) (ltb k n) (λ m. lt→ltb k n (lt_of_not-le (none-up t k l m)))))
-    (λ t. upTo-intro _ 64 (λ k l. not_T (member k (a / 2 ^ n)) (λ m. none-shifted t k (rw (member-shr k a n h) at m))))
+    (λ t. up_to-intro _ 64 (λ k l. implies-intro (member k a) (ltb k n) (λ m. lt→ltb k n (lt_of_not-le (none-up t k l m)))))
+    (λ t. up_to-intro _ 64 (λ k l. not_T (member k (a / 2 ^ n)) (λ m. none-shifted t k (rw (member-shr k a n h) at m))))
   where
     none-up : T (is_empty (a / 2 ^ n)) → (k : ℕ) → k < 64 → T (member k a) → n ≤ k → ⊥
     none-up t k l m g =
         let e : n + (k - n) ≡ k = omega arith in
-        T_not (member (k - n) (a / 2 ^ n)) (upTo-elim _ 64 t (k - n) (omega arith)) (rw (member-shr (k - n) a n h, e) m)
+        T_not (member (k - n) (a / 2 ^ n)) (up_to-elim _ 64 t (k - n) (omega arith)) (rw (member-shr (k - n) a n h, e) m)
 
     none-shifted : T (below a n) → (k : ℕ) → T (member (n + k) a) → ⊥
     none-shifted t k m =
-        omega (arith, ltb→lt (n + k) n (implies-elim (member (n + k) a) (ltb (n + k) n) (upTo-elim _ 64 t (n + k) (member-lt (n + k) a m)) m))
+        omega (arith, ltb→lt (n + k) n (implies-elim (member (n + k) a) (ltb (n + k) n) (up_to-elim _ 64 t (n + k) (member-lt (n + k) a m)) m))
 
 returns : tie.Need-returns
 returns c =

@@ -1,11 +1,11 @@
 -- `cpu_table::count_exit` meets its contract: the total first, then the exit's own counter. Assumes nothing.
 use Rattle.std.proofs.Common.{ap, ◌∙◌, rules}
-use Rattle.rules.specs.Effects.{countExit, bump}
+use Rattle.rules.specs.Effects.{count_exit, bump}
 use Rattle.cpu_table.proofs.count_exit.Statement.{statement}
 use Rattle.cpu_table.proofs.count_exit.Tie as tie
 
 returns : tie.Need-returns
-unfolding countExit
+unfolding count_exit
 returns c =
     let a = c.before.before.before.args in
     let counters = c.bump2.ensures ∙ ap (bump a.own) c.before.bump.ensures in

@@ -3,19 +3,19 @@ use mathlib.Core.Path.{ap, ◌∙◌}
 use Rattle.base.specs.Lists.{same}
 use Rattle.base.proofs.Rules.{rule-holds, rule-passed, no-rule}
 use Rattle.cell_record.specs.CellRecord.{cell_of}
-use Rattle.create_rules.specs.Rows.{useCode}
+use Rattle.create_rules.specs.Rows.{use_code}
 use Rattle.create_rules.proofs.Laws.{name-is, busy-is}
 use Rattle.create_rules.proofs.in_use.Statement.{statement}
 use Rattle.create_rules.proofs.in_use.Tie as tie
 
 returns : tie.Need-returns
-unfolding useCode
+unfolding use_code
 returns c m n r f =
     let own = c.before.before in
     rule-holds _ _ _ (name-is _ m _ f _ _ n (own.same_name.ensures ∙ ap (same _) own.before.name.ensures) ∙ c.if1.true)
 
 returns-2 : tie.Need-returns-2
-unfolding useCode cell_of
+unfolding use_code cell_of
 returns-2 c m n r f =
     let inside = c.before.before in
     let wanted = inside.before in
@@ -26,7 +26,7 @@ returns-2 c m n r f =
     ∙ rule-passed _ _ _ (name-is _ m _ f _ _ n (own.same_name.ensures ∙ ap (same _) own.before.name.ensures) ∙ other.if1.false)
 
 returns-3 : tie.Need-returns-3
-unfolding useCode cell_of
+unfolding use_code cell_of
 returns-3 c m n r f =
     let inside = c.before.before in
     let wanted = inside.before in

@@ -6,23 +6,23 @@ use borrow.Author.Tests.{lt-ltb, le-ltb}
 use Rattle.base.proofs.Rules.{rule-holds, rule-passed}
 use Rattle.system_record.specs.declared.SystemConfig.{SystemConfig}
 use Rattle.cell_record.specs.CellRecord.{cell_of}
-use Rattle.create_rules.specs.Rows.{createCode}
+use Rattle.create_rules.specs.Rows.{create_code}
 use Rattle.create_rules.proofs.Laws.{invalid-is, full-code, use-code}
 use Rattle.create_rules.proofs.refusal.Statement.{statement}
 use Rattle.create_rules.proofs.refusal.Tie as tie
 
 returns : tie.Need-returns
-unfolding createCode
+unfolding create_code
 returns c m s u l r k f = rule-holds _ _ _ (sym k ∙ c.if1.true)
 
 returns-2 : tie.Need-returns-2
-unfolding createCode
+unfolding create_code
 returns-2 c m s u l r k f =
     let unlocked = c.before in
     rule-holds _ _ _ (lt-ltb _ _ c.if2.true) ∙ rule-passed _ _ _ (sym k ∙ unlocked.if1.false)
 
 returns-3 : tie.Need-returns-3
-unfolding createCode cell_of
+unfolding create_code cell_of
 returns-3 c m s u l r k f =
     let good = c in
     let inside = good.before in
@@ -34,7 +34,7 @@ returns-3 c m s u l r k f =
     ∙ rule-passed _ _ _ (le-ltb _ _ short.if2.false) ∙ rule-passed _ _ _ (sym k ∙ unlocked.if1.false)
 
 returns-4 : tie.Need-returns-4
-unfolding createCode cell_of
+unfolding create_code cell_of
 returns-4 c m s u l r k f =
     let room = c.before in
     let used = room.before.before in
@@ -49,7 +49,7 @@ returns-4 c m s u l r k f =
     ∙ rule-passed _ _ _ (le-ltb _ _ short.if2.false) ∙ rule-passed _ _ _ (sym k ∙ unlocked.if1.false)
 
 returns-5 : tie.Need-returns-5
-unfolding createCode cell_of
+unfolding create_code cell_of
 returns-5 c m s u l r k f =
     let room = c.before in
     let used = room.before.before in

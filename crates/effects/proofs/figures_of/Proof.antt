@@ -1,12 +1,12 @@
 -- `effects::figures_of` meets its contract: each figure is the record's value of that name. Assumes nothing.
 use Rattle.std.proofs.Common.{◌%◌, eqb, rules}
 use Rattle.cell_record.specs.CellRecord.{cell_of}
-use Rattle.effects.specs.Parts.{figuresOf}
+use Rattle.effects.specs.Parts.{figures_of}
 use Rattle.effects.proofs.figures_of.Statement.{statement}
 use Rattle.effects.proofs.figures_of.Tie as tie
 
 returns : tie.Need-returns
-unfolding figuresOf cell_of
+unfolding figures_of cell_of
 returns c =
     let passive = c.before in
     let comm = passive.before in

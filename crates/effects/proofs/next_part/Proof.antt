@@ -1,7 +1,7 @@
 -- `effects::next_part` meets its contract: CPUs first, then the cell that is cut off, then the effect's own next part. Assumes nothing.
 use Rattle.std.proofs.Common.{◌≡◌, ℕ, ◌≤◌, sym, subst, rules}
 use Rattle.machine_state.specs.declared.CallKind.{CallKind}
-use Rattle.machine_state.specs.Machine.{maxCells}
+use Rattle.machine_state.specs.Machine.{max_cells}
 use Rattle.asking.specs.declared.Effect.{Effect}
 use Rattle.asking.specs.declared.Effect.TheVariants.{Comes}
 use Rattle.effects.specs.declared.Part.{Part}
@@ -23,7 +23,7 @@ unfolding IsNext
 returns-3 c = search rules
 
 -- the effect's next part, where it comes
-comes-next : (cpus cut ids : ℕ) (e : Effect) (kind : CallKind) (id : ℕ) (p : Part) → cpus ≡ 0 → maxCells ≤ cut → e ≡ Comes kind id → EffectPart kind id ids p
+comes-next : (cpus cut ids : ℕ) (e : Effect) (kind : CallKind) (id : ℕ) (p : Part) → cpus ≡ 0 → max_cells ≤ cut → e ≡ Comes kind id → EffectPart kind id ids p
     → IsNext cpus cut e ids p
 unfolding IsNext EffectPart
 comes-next cpus cut ids e kind id (Part.Cpu k) none uncut is n = absurd n

@@ -4,22 +4,22 @@ use Rattle.base.proofs.Tests.{fails}
 use Rattle.machine_state.specs.declared.CallKind.{CallKind}
 use Rattle.machine_state.specs.declared.CallKind.TheVariants.{Disable, Create, Start, SetLoadable, Destroy}
 use Rattle.asking.specs.declared.Effect.TheVariants.{NoEffect, Comes}
-use Rattle.effects.specs.Parts.{isDisable}
+use Rattle.effects.specs.Parts.{is_disable}
 use Rattle.effects.specs.Applying.{rest_of}
 use Rattle.effects.proofs.rest_of.Statement.{statement}
 use Rattle.effects.proofs.rest_of.Tie as tie
 
 -- Disable's effect comes back, every other is whole
-comes_back : (kind : CallKind) (id : ℕ) → isDisable kind ≡ true → Comes kind id ≡ rest_of (Comes kind id)
-unfolding isDisable rest_of
+comes_back : (kind : CallKind) (id : ℕ) → is_disable kind ≡ true → Comes kind id ≡ rest_of (Comes kind id)
+unfolding is_disable rest_of
 comes_back Disable id e = refl
 comes_back Create id e = absurd (fails (sym e) tt)
 comes_back Start id e = absurd (fails (sym e) tt)
 comes_back SetLoadable id e = absurd (fails (sym e) tt)
 comes_back Destroy id e = absurd (fails (sym e) tt)
 
-is_whole : (kind : CallKind) (id : ℕ) → isDisable kind ≡ false → NoEffect ≡ rest_of (Comes kind id)
-unfolding isDisable rest_of
+is_whole : (kind : CallKind) (id : ℕ) → is_disable kind ≡ false → NoEffect ≡ rest_of (Comes kind id)
+unfolding is_disable rest_of
 is_whole Disable id e = absurd (fails {b = true} e tt)
 is_whole Create id e = refl
 is_whole Start id e = refl

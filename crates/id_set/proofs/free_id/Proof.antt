@@ -9,8 +9,8 @@ use lib.Count.{count_trailing_zeros, trailing_le}
 use borrow.Author.Tests.{ne_eqb}
 use Rattle.base.proofs.Tests.{holds, fails}
 use Rattle.cpu_set.specs.CpuSet.{bit}
-use Rattle.rules.specs.State.{hasId, first, cellIds}
-use Rattle.rules.specs.Create.{freeId}
+use Rattle.rules.specs.State.{has_id, first, cell_ids}
+use Rattle.rules.specs.Create.{free_id}
 use Rattle.id_set.proofs.Ids.{free-bit}
 use Rattle.id_set.proofs.Laws.{first-is}
 use Rattle.id_set.proofs.Zeros.{trailing-clear, trailing-set}
@@ -24,25 +24,25 @@ module _ (ids : ℕ) (fits : ids < 2 ^ 16) where
   abbrev unused : ℕ
   unused = (2 ^ 16 - 1) - bit_or ids 1
 
-  free : (k : ℕ) → 1 ≤ k → k < 16 → bit k unused ≡ not (hasId ids k)
-  free k l h = free-bit ids k fits h ∙ ap (λ (b : Bool). not (b || hasId ids k)) (ne_eqb k 0 (λ e. omega arith))
+  free : (k : ℕ) → 1 ≤ k → k < 16 → bit k unused ≡ not (has_id ids k)
+  free k l h = free-bit ids k fits h ∙ ap (λ (b : Bool). not (b || has_id ids k)) (ne_eqb k 0 (λ e. omega arith))
 
   not_root : (r : ℕ) → (r < 16 → bit r unused ≡ true) → 1 ≤ r
   not_root zero here = absurd (fails (free-bit ids 0 fits (omega arith)) (holds (here (omega arith))))
   not_root (suc r) here = omega arith
 
-  found : count_trailing_zeros 16 unused ≡ first (λ id. not (hasId ids id)) cellIds
+  found : count_trailing_zeros 16 unused ≡ first (λ id. not (has_id ids id)) cell_ids
   found =
       let here = trailing-set 16 unused in
       let low = not_root (count_trailing_zeros 16 unused) here in
       let high = trailing_le 16 unused in
-      first-is (λ id. not (hasId ids id)) 15 1 (count_trailing_zeros 16 unused) refl low high
+      first-is (λ id. not (has_id ids id)) 15 1 (count_trailing_zeros 16 unused) refl low high
       (λ k l h. sym (free k l (omega arith)) ∙ trailing-clear 16 unused k h)
       (λ h. sym (free (count_trailing_zeros 16 unused) low h) ∙ here h)
 
 returns : tie.Need-returns
-unfolding freeId
-returns c = λ m e. found c.args.live-ids c.ranges.live-ids.fits ∙ ap (λ (ids : ℕ). first (λ id. not (hasId ids id)) cellIds) (sym e)
+unfolding free_id
+returns c = λ m e. found c.args.live-ids c.ranges.live-ids.fits ∙ ap (λ (ids : ℕ). first (λ id. not (has_id ids id)) cell_ids) (sym e)
 
 pub free-id-spec : {M : Type 1} → statement M
 free-id-spec = tie.close (tie.spec cast-result returns)

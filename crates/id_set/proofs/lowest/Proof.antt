@@ -8,7 +8,7 @@ use native.Mathlib.Nat.{lt_of_le_of_lt}
 use native.Mathlib.Omega.{arith}
 use lib.Count.{count_trailing_zeros, trailing_le}
 use Rattle.base.proofs.Tests.{le-or-lt}
-use Rattle.rules.specs.State.{hasId}
+use Rattle.rules.specs.State.{has_id}
 use Rattle.id_set.specs.Ids.{Lowest}
 use Rattle.id_set.proofs.Ids.{has-bit, no-ids}
 use Rattle.id_set.proofs.Laws.{first-is}
@@ -23,10 +23,10 @@ module _ (ids : ℕ) (fits : ids < 2 ^ 16) where
   abbrev place : ℕ
   place = count_trailing_zeros 16 ids
 
-  below : (k : ℕ) → k < place → hasId ids k ≡ false
+  below : (k : ℕ) → k < place → has_id ids k ≡ false
   below k h = let high = trailing_le 16 ids in has-bit ids k (omega arith) ∙ trailing-clear 16 ids k h
 
-  here : place < 16 → hasId ids place ≡ true
+  here : place < 16 → has_id ids place ≡ true
   here h = has-bit ids place h ∙ trailing-set 16 ids h
 
   inside : (ids ≡ 0 → ⊥) → place < 16
@@ -34,7 +34,7 @@ module _ (ids : ℕ) (fits : ids < 2 ^ 16) where
 
   found : Lowest ids place
   found = record {
-    is = first-is (hasId ids) 16 0 place refl (omega arith) (trailing_le 16 ids) (λ k l h. below k h) here;
+    is = first-is (has_id ids) 16 0 place refl (omega arith) (trailing_le 16 ids) (λ k l h. below k h) here;
     inside = inside;
     here = λ n. here (inside n);
   }

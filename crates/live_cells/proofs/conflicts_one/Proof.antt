@@ -8,7 +8,7 @@ use lib.ListN.{length, take}
 use Rattle.base.specs.Lists.{any}
 use Rattle.base.proofs.Lists.{any_none, any-turn, take-used}
 use Rattle.regions.specs.declared.MemRegion.{MemRegion}
-use Rattle.region_table.specs.Tables.{maxRegions}
+use Rattle.region_table.specs.Tables.{max_regions}
 use Rattle.rules.specs.Create.{conflict}
 use borrow.Author.Rules.{rules}
 use Rattle.live_cells.proofs.conflicts_one.Statement.{statement}
@@ -30,14 +30,14 @@ loop-again : tie.Need-loop-preserved invariant-loop decreases-loop
 loop-again c =
     let entry = c.before.before.before.before.before in
     let l = c.before.before.before.loop in
-    let size : length entry.args.t1 ≡ maxRegions = entry.well-formed.0.1.0.1 in
+    let size : length entry.args.t1 ≡ max_regions = entry.well-formed.0.1.0.1 in
     (search rules, any-turn _ entry.args.t1 _ _ _ _ l.invariant.1 c.conflict.ensures (omega arith))
 
 returns : tie.Need-returns invariant-loop decreases-loop
 returns c =
     let entry = c.before.before.before in
     let l = c.before.loop in
-    let size : length entry.args.t1 ≡ maxRegions = entry.well-formed.0.1.0.1 in
+    let size : length entry.args.t1 ≡ max_regions = entry.well-formed.0.1.0.1 in
     l.invariant.1 ∙ ap (any _) (take-used _ _ _ _ l.i size c.before.before.used.ensures l.invariant.0 c.loop-test.false)
 
 pub conflicts-one-spec : {M : Type 1} → statement M

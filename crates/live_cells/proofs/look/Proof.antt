@@ -1,12 +1,12 @@
 -- `live_cells::look` meets its contract: it is the definition, with what its parts ensure. Assumes nothing.
 use mathlib.Core.Path.{ap}
 use mathlib.Core.Bool.{Bool, ◌||◌}
-use Rattle.live_cells.specs.Looks.{together, lookedAt}
+use Rattle.live_cells.specs.Looks.{together, looked_at}
 use Rattle.live_cells.proofs.look.Statement.{statement}
 use Rattle.live_cells.proofs.look.Tie as tie
 
 returns : tie.Need-returns
-unfolding together lookedAt
+unfolding together looked_at
 returns c =
     let met = c.before in
     let named = met.before.before in

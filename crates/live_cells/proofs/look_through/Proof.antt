@@ -4,9 +4,9 @@ use mathlib.Core.List.{List}
 use native.Mathlib.Omega.{arith}
 use Rattle.machine_state.specs.declared.Cell.{Cell}
 use Rattle.machine_state.specs.declared.Machine.{Machine}
-use Rattle.machine_state.specs.Machine.{cellIn}
-use Rattle.id_set.specs.Ids.{idCount}
-use Rattle.live_cells.specs.Looks.{Looking, toLookAt}
+use Rattle.machine_state.specs.Machine.{cell_in}
+use Rattle.id_set.specs.Ids.{id_count}
+use Rattle.live_cells.specs.Looks.{Looking, to_look_at}
 use Rattle.live_cells.proofs.Looks.{look-start, look-turn, look-less, look-end}
 use Rattle.live_cells.proofs.look_through.Statement.{statement}
 use Rattle.live_cells.proofs.look_through.Tie as tie
@@ -15,7 +15,7 @@ abbrev invariant-loop : tie.invariant-loop
 invariant-loop used bytes cells found₀ left₀ found left = (m : Machine) → m.cells ≡ cells → Looking bytes m left₀ found left
 
 abbrev decreases-loop : tie.decreases-loop
-decreases-loop used bytes cells found₀ left₀ found left = idCount left
+decreases-loop used bytes cells found₀ left₀ found left = id_count left
 
 loop-holds : tie.Need-loop-init invariant-loop decreases-loop
 loop-holds c m t = look-start _ m _ c.before.nothing-found.ensures
@@ -34,13 +34,13 @@ loop-again c m t =
     let looked = c.before in
     let low = looked.before.before in
     let turn = low.before in
-    look-turn (turn.before.loop.invariant m t) turn.loop-test.true low.lowest.ensures (ap (λ (cells : List Cell). cellIn cells low.lowest.result) t) looked.look.ensures
+    look-turn (turn.before.loop.invariant m t) turn.loop-test.true low.lowest.ensures (ap (λ (cells : List Cell). cell_in cells low.lowest.result) t) looked.look.ensures
     c.drop-id.ensures
 
 returns : tie.Need-returns invariant-loop decreases-loop
 returns c m u t q =
     let l = c.before in
-    look-end (l.loop.invariant m t) _ c.loop-test.false (l.before.to-look-at.ensures ∙ ap (toLookAt _) (sym u)) q
+    look-end (l.loop.invariant m t) _ c.loop-test.false (l.before.to-look-at.ensures ∙ ap (to_look_at _) (sym u)) q
 
 pub look-through-spec : {M : Type 1} → statement M
 look-through-spec = tie.close (tie.spec invariant-loop decreases-loop (λ c κs. tt) (λ c κs. tt) loop-holds (λ c κs. tt) mul-c array-copy-out-c (λ c κs. tt) (λ c κs. tt) loop-less loop-again returns)

@@ -8,9 +8,9 @@ use native.Mathlib.Omega.{arith}
 use lib.ListN.{take}
 use Rattle.base.specs.Lists.{any}
 use Rattle.regions.specs.declared.MemRegion.{MemRegion}
-use Rattle.region_table.specs.Tables.{regionsOf}
+use Rattle.region_table.specs.Tables.{regions_of}
 use Rattle.region_table.proofs.Laws.{any-no-region, any-regions}
-use Rattle.cell_record.specs.CellRecord.{cell_of, cellRegions}
+use Rattle.cell_record.specs.CellRecord.{cell_of, cell_regions}
 use Rattle.cell_record.proofs.Laws.{record-regions}
 use Rattle.rules.specs.Create.{conflict, conflicts}
 use Rattle.live_cells.proofs.Pairs.{any-exchange}
@@ -22,7 +22,7 @@ abbrev met_by : List MemRegion → MemRegion → Bool
 met_by rs s = any (λ r. conflict r s) rs
 
 abbrev invariant-loop : tie.invariant-loop
-invariant-loop c bytes table n found₀ i₀ found i = (i ≤ n) × (found ≡ any (met_by (take c.region_count table)) (regionsOf 56 i bytes))
+invariant-loop c bytes table n found₀ i₀ found i = (i ≤ n) × (found ≡ any (met_by (take c.region_count table)) (regions_of 56 i bytes))
 
 abbrev decreases-loop : tie.decreases-loop
 decreases-loop c bytes table n found₀ i₀ found i = n - i
@@ -48,8 +48,8 @@ returns c =
     let rs = take a.c.region_count a.c.regions in
     let bytes = a.«record».now in
     let end : l.i ≡ n.result = omega arith in
-    l.invariant.1 ∙ ap (λ (k : ℕ). any (met_by rs) (regionsOf 56 k bytes)) (end ∙ n.ensures) ∙ ap (any (met_by rs)) (sym (record-regions bytes))
-    ∙ any-exchange conflict rs (cellRegions (cell_of bytes))
+    l.invariant.1 ∙ ap (λ (k : ℕ). any (met_by rs) (regions_of 56 k bytes)) (end ∙ n.ensures) ∙ ap (any (met_by rs)) (sym (record-regions bytes))
+    ∙ any-exchange conflict rs (cell_regions (cell_of bytes))
 
 pub meets-spec : {M : Type 1} → statement M
 meets-spec = tie.close (tie.spec invariant-loop decreases-loop (λ c κs. tt) loop-holds (λ c κs. tt) (λ c κs. tt) (λ c. search rules) (λ c. search rules) loop-again returns)

@@ -2,7 +2,7 @@
 use mathlib.Core.Path.{refl, ◌∙◌}
 use mir.Syntax.{w32}
 use mir.Facts.{to_z-of_z}
-use Rattle.rules.specs.State.{withCpus, withComm, answered}
+use Rattle.rules.specs.State.{with_cpus, with_comm, answered}
 use Rattle.decide.proofs.Shell.{sets-there, scan-parts, all-parts}
 use Rattle.manager.proofs.Laws.{applied}
 use borrow.Author.Rules.{rules}
@@ -10,7 +10,7 @@ use Rattle.manager.proofs.step.Statement.{statement}
 use Rattle.manager.proofs.step.Tie as tie
 
 returns : tie.Need-returns
-unfolding withCpus withComm answered
+unfolding with_cpus with_comm answered
 returns c =
     let words = c.before in
     let effect = words.before.before in
@@ -38,7 +38,7 @@ returns c =
     let back = to_z-of_z {w = w32} {z = scanned.scan.result} (record { sfits = scanned.scan.type-inv }) in
     applied decided.decide.result _ m _ _ _ _ _ touch.change-cpu.ensures cut.cut_off.ensures effect.carry-out.ensures words.change-words.ensures c.with-waiting.ensures
     ∙ decided.decide.ensures.settles _ m
-    (refl, all-parts m _ _ _ cpu.cpu-for.ensures at.words-for.ensures _ _ _ _ _ sets asked.asked-for.ensures sizes.table-sizes.ensures.commTable back says)
+    (refl, all-parts m _ _ _ cpu.cpu-for.ensures at.words-for.ensures _ _ _ _ _ sets asked.asked-for.ensures sizes.table-sizes.ensures.comm_table back says)
 
 pub step_spec : {M : Type 1} → statement M
 step_spec = tie.close (tie.spec (λ c κs. search rules) (λ c. search rules) (λ c. search rules) (λ c κs. search rules) (λ c. search rules) (λ c. search rules) (λ c κs. search rules) (λ c κs. search rules) (λ c. search rules) (λ c. search rules) (λ c κs. search rules) (λ c κs. search rules) (λ c κs. search rules) (λ c κs. search rules) (λ c κs. search rules) (λ c. search rules) (λ c. search rules) (λ c κs. search rules) (λ c κs. search rules) (λ c κs. search rules) (λ c. search rules) (λ c. search rules) (λ c κs. search rules) (λ c. search rules) (λ c. search rules) (λ c κs. search rules) (λ c κs. search rules) (λ c. search rules) (λ c. search rules) (λ c κs. search rules) (λ c. search rules) (λ c. search rules) (λ c κs. search rules) returns)

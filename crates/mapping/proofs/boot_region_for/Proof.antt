@@ -3,14 +3,14 @@
 use mathlib.Core.Path.{◌≡◌, refl, sym, ◌∙◌}
 use Prim.Native.Nat.{◌≤◌, ◌-◌}
 use lib.ListN.{take, drop}
-use Rattle.rules.specs.Pages.{regionFor}
+use Rattle.rules.specs.Pages.{region_for}
 use Rattle.mapping.proofs.Laws.{region-here, region-next, region-none}
 use borrow.Author.Rules.{rules}
 use Rattle.mapping.proofs.boot_region_for.Statement.{statement}
 use Rattle.mapping.proofs.boot_region_for.Tie as tie
 
 abbrev invariant-loop : tie.invariant-loop
-invariant-loop count page table n i₀ i = (i ≤ n) × (regionFor page (take count table) ≡ regionFor page (drop i (take count table)))
+invariant-loop count page table n i₀ i = (i ≤ n) × (region_for page (take count table) ≡ region_for page (drop i (take count table)))
 
 abbrev decreases-loop : tie.decreases-loop
 decreases-loop count page table n i₀ i = n - i

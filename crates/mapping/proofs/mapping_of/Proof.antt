@@ -5,18 +5,18 @@ use mathlib.Core.Bool.{not}
 use lib.Dec.{lit<}
 use borrow.Author.Tests.{eq-eqb, ne_eqb, not-true, not-false}
 use Rattle.base.proofs.Rules.{rule-holds, rule-passed, no-rule}
-use Rattle.rules.specs.Pages.{mappingOf}
+use Rattle.rules.specs.Pages.{mapping_of}
 use Rattle.pages.proofs.Laws.{live-place, place-fits}
 use borrow.Author.Rules.{rules}
 use Rattle.mapping.proofs.mapping_of.Statement.{statement}
 use Rattle.mapping.proofs.mapping_of.Tie as tie
 
 returns : tie.Need-returns
-unfolding mappingOf
+unfolding mapping_of
 returns c = rule-holds _ _ _ (ap not (sym c.before.has-booted.ensures) ∙ c.if1.true)
 
 returns-2 : tie.Need-returns-2
-unfolding mappingOf
+unfolding mapping_of
 returns-2 c =
     let root = c.before in
     let on = root.before in
@@ -25,7 +25,7 @@ returns-2 c =
     ∙ rule-passed _ _ _ (ap not (sym on.before.has-booted.ensures) ∙ on.if1.false)
 
 returns-3 : tie.Need-returns-3
-unfolding mappingOf
+unfolding mapping_of
 returns-3 c =
     let other = c.before.before in
     let on = other.before in
@@ -41,7 +41,7 @@ element-copy-out-c : tie.Need-element-copy-out-c
 element-copy-out-c c = live-place _ _ _ c.before.is_live.ensures c.if3.false
 
 returns-4 : tie.Need-returns-4
-unfolding mappingOf
+unfolding mapping_of
 returns-4 c =
     let present = c.before.before.before in
     let other = present.before.before in

@@ -32,7 +32,7 @@ loop-again c =
     let size = entry.well-formed.0.1.0.1 in
     let inside : l.i < length entry.args.t1 = omega arith in (
       search rules,
-      sees_more _ entry.args.t1 l.i _ _ inside refl _ _ _ _ _ l.invariant.1 here.has-phys.ensures shared.is-shared.ensures comms.is_comm.ensures c.is-loadable.ensures,
+      sees_more _ entry.args.t1 l.i _ _ inside refl _ _ _ _ _ l.invariant.1 here.has-phys.ensures shared.is_shared.ensures comms.is_comm.ensures c.is-loadable.ensures,
     )
 
 returns : tie.Need-returns invariant-loop decreases-loop

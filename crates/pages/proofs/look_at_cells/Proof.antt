@@ -30,7 +30,7 @@ loop-again c =
     let l = turn.before.loop in
     let low : 1 < l.i = turn.loop-test.true in
     let high : l.i ≤ 16 = l.invariant.1 in
-    let turned = found-more _ l.i _ _ low high _ _ _ _ live.is_live.ensures loading.is-loading.ensures seen.look_at.ensures in
+    let turned = found-more _ l.i _ _ low high _ _ _ _ live.is_live.ensures loading.is_loading.ensures seen.look_at.ensures in
     (omega (arith, low), omega (arith, high), (λ m e f. found-owner _ _ m _ _ _ _ chosen.choose.ensures (turned m e f (l.invariant.2 m e f))))
 
 returns : tie.Need-returns invariant-loop decreases-loop

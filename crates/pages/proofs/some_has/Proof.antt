@@ -6,13 +6,13 @@ use native.Mathlib.Omega.{arith}
 use lib.ListN.{take}
 use Rattle.base.specs.Lists.{any}
 use Rattle.base.proofs.Lists.{any_none, any-turn, take-used}
-use Rattle.rules.specs.Pages.{hasPhys}
+use Rattle.rules.specs.Pages.{has_phys}
 use borrow.Author.Rules.{rules}
 use Rattle.pages.proofs.some_has.Statement.{statement}
 use Rattle.pages.proofs.some_has.Tie as tie
 
 abbrev invariant-loop : tie.invariant-loop
-invariant-loop count page table n found₀ i₀ found i = (i ≤ n) × (found ≡ any (hasPhys page) (take i table))
+invariant-loop count page table n found₀ i₀ found i = (i ≤ n) × (found ≡ any (has_phys page) (take i table))
 
 abbrev decreases-loop : tie.decreases-loop
 decreases-loop count page table n found₀ i₀ found i = n - i

@@ -1,6 +1,6 @@
 -- `polling::poll_cell` meets its contract: by whether the cell is in the table, whether it is heard, and whether it has a limit. Assumes nothing.
 use mathlib.Core.Path.{sym, ◌∙◌}
-use Rattle.unobeyed.specs.Admission.{waitedCell}
+use Rattle.unobeyed.specs.Admission.{waited_cell}
 use Rattle.asking.proofs.Laws.{moves-as}
 use Rattle.polling.proofs.Laws.{moves-uncut, looks-heard, polled-heard, polled-silent, polled-past, inside-words}
 use borrow.Author.Rules.{rules}
@@ -14,7 +14,7 @@ returns c =
     (moves-as c.stay.ensures (λ m h. h.waits) (λ m new h. polled-past a.kind a.stage new m c.before.if1.true h.size h.waits))
 
 returns-2 : tie.Need-returns-2
-unfolding waitedCell
+unfolding waited_cell
 returns-2 c =
     let looked = c.before.before in
     let a = looked.before.before.args in
@@ -28,7 +28,7 @@ returns-2 c =
     (λ m new h. polled-heard a.kind a.stage new m a.w (inside-words m a.stage.cell a.w looked.before.if1.false h.words) heard))
 
 returns-3 : tie.Need-returns-3
-unfolding waitedCell
+unfolding waited_cell
 returns-3 c =
     let left = c.before.before in
     let looked = left.before in

@@ -2,9 +2,9 @@
 use mathlib.Core.Path.{sym, ◌∙◌}
 use Prim.Native.Nat.{◌+◌, ◌^◌, ◌<◌}
 use native.Mathlib.Omega.{arith}
-use Rattle.rules.specs.Asking.{withPolls}
-use Rattle.unobeyed.specs.Admission.{waitedCell}
-use Rattle.asking.specs.Moves.{effectOf}
+use Rattle.rules.specs.Asking.{with_polls}
+use Rattle.unobeyed.specs.Admission.{waited_cell}
+use Rattle.asking.specs.Moves.{effect_of}
 use Rattle.asking.proofs.Laws.{moves-as}
 use Rattle.polling.proofs.Laws.{moves-uncut, poll-as, looks-last, polled-last, polled-counted, inside-words, count_fits}
 use borrow.Author.Rules.{rules}
@@ -12,7 +12,7 @@ use Rattle.polling.proofs.unheard.Statement.{statement}
 use Rattle.polling.proofs.unheard.Tie as tie
 
 returns : tie.Need-returns
-unfolding waitedCell
+unfolding waited_cell
 returns c =
     let asked = c.before.before in
     let a = asked.before.args in
@@ -37,7 +37,7 @@ add-next c =
     search (rules, fits)
 
 returns-2 : tie.Need-returns-2
-unfolding waitedCell effectOf withPolls
+unfolding waited_cell effect_of with_polls
 returns-2 c =
     let asked = c.before.before.before in
     let a = asked.before.args in

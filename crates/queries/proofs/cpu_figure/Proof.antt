@@ -2,7 +2,7 @@
 use mathlib.Core.Path.{refl, sym, ap, ◌∙◌}
 use mathlib.Core.Bool.{not}
 use borrow.Author.Tests.{eq-eqb, ne_eqb}
-use Rattle.rules.specs.Queries.{cpuGetInfo}
+use Rattle.rules.specs.Queries.{cpu_get_info}
 use Rattle.queries.proofs.Laws.{answers, passes, none_left, between, foreign-row, works-row, counter-of}
 use borrow.Author.Rules.{rules}
 use Rattle.queries.proofs.cpu_figure.Statement.{statement}
@@ -12,11 +12,11 @@ counter-requires : tie.Need-counter-requires
 counter-requires c κs = between 1000 _ 1005 c.if4.true
 
 returns : tie.Need-returns
-unfolding cpuGetInfo
+unfolding cpu_get_info
 returns c m k j p q b = passes _ _ _ _ (ap not b) (answers _ _ _ _ _ (foreign-row _ _ _ _ p q ∙ c.if1.true) refl)
 
 returns-2 : tie.Need-returns-2
-unfolding cpuGetInfo
+unfolding cpu_get_info
 returns-2 c m k j p q b =
     let cell = c.before.before in
     let entry = cell.before.before.before.before in
@@ -25,7 +25,7 @@ returns-2 c m k j p q b =
     (answers _ _ _ _ _ (works-row entry.args.kind _ _ q ∙ c.if2.true) refl))
 
 returns-3 : tie.Need-returns-3
-unfolding cpuGetInfo
+unfolding cpu_get_info
 returns-3 c m k j p q b =
     let works = c.before in
     let cell = works.before.before in
@@ -36,7 +36,7 @@ returns-3 c m k j p q b =
     (answers _ _ _ _ _ (eq-eqb _ _ c.if3.true) refl)))
 
 returns-4 : tie.Need-returns-4
-unfolding cpuGetInfo
+unfolding cpu_get_info
 returns-4 c m k j p q b =
     let in-range = c.before in
     let state = in-range.before in
@@ -50,7 +50,7 @@ returns-4 c m k j p q b =
     (answers _ _ _ _ _ in-range.if4.true (c.counter.ensures ∙ counter-of _ _ _ (sym q))))))
 
 returns-5 : tie.Need-returns-5
-unfolding cpuGetInfo
+unfolding cpu_get_info
 returns-5 c m k j p q b =
     let state = c.before in
     let works = state.before in

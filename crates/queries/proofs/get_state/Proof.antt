@@ -4,29 +4,29 @@ use mathlib.Core.Bool.{Bool, ◌||◌}
 use Prim.Native.Nat.{ℕ}
 use lib.Dec.{eqb}
 use borrow.Author.Tests.{eq-eqb, ne_eqb}
-use Rattle.rules.specs.State.{running, runningLocked, shutDown, failed}
-use Rattle.rules.specs.Queries.{getState}
+use Rattle.rules.specs.State.{running, running_locked, shut_down, failed}
+use Rattle.rules.specs.Queries.{get_state}
 use Rattle.queries.proofs.Laws.{answers, passes, none_left, live-row, live-is, state-is}
 use borrow.Author.Rules.{rules}
 use Rattle.queries.proofs.get_state.Statement.{statement}
 use Rattle.queries.proofs.get_state.Tie as tie
 
 abbrev runs : ℕ → Bool
-runs s = eqb s running || eqb s runningLocked
+runs s = eqb s running || eqb s running_locked
 
 returns : tie.Need-returns
-unfolding getState
+unfolding get_state
 returns c m l k = answers _ _ _ _ _ (eq-eqb _ _ c.if1.true) refl
 
 returns-2 : tie.Need-returns-2
-unfolding getState
+unfolding get_state
 returns-2 c m l k =
     let known = c.before in
     let other = known.before in
     passes _ _ _ _ (ne_eqb _ _ other.if1.false) (answers _ _ _ _ _ (live-row m _ _ _ _ l known.is_live.ensures c.if2.true) refl)
 
 returns-3 : tie.Need-returns-3
-unfolding getState
+unfolding get_state
 returns-3 c m l k =
     let alive = c.before in
     let known = alive.before in
@@ -37,7 +37,7 @@ returns-3 c m l k =
     (answers _ _ _ _ _ (ap runs state ∙ c.if3.true) refl))
 
 returns-4 : tie.Need-returns-4
-unfolding getState
+unfolding get_state
 returns-4 c m l k =
     let still = c.before in
     let alive = still.before in
@@ -50,7 +50,7 @@ returns-4 c m l k =
     (answers _ _ _ _ _ (eq-eqb _ _ (state ∙ c.if4.true)) refl)))
 
 returns-5 : tie.Need-returns-5
-unfolding getState
+unfolding get_state
 returns-5 c m l k =
     let final = c.before in
     let still = final.before in
@@ -61,11 +61,11 @@ returns-5 c m l k =
     passes _ _ _ _ (ne_eqb _ _ other.if1.false)
     (passes _ _ _ _ (live-row m _ _ _ _ l known.is_live.ensures alive.if2.false)
     (passes _ _ _ _ (ap runs state ∙ still.if3.false)
-    (passes _ _ _ _ (ap (λ (s : ℕ). eqb s shutDown) state ∙ ne_eqb _ _ final.if4.false)
+    (passes _ _ _ _ (ap (λ (s : ℕ). eqb s shut_down) state ∙ ne_eqb _ _ final.if4.false)
     (answers _ _ _ _ _ (eq-eqb _ _ (state ∙ c.if5.true)) refl))))
 
 returns-6 : tie.Need-returns-6
-unfolding getState
+unfolding get_state
 returns-6 c m l k =
     let final = c.before in
     let still = final.before in
@@ -76,7 +76,7 @@ returns-6 c m l k =
     passes _ _ _ _ (ne_eqb _ _ other.if1.false)
     (passes _ _ _ _ (live-row m _ _ _ _ l known.is_live.ensures alive.if2.false)
     (passes _ _ _ _ (ap runs state ∙ still.if3.false)
-    (passes _ _ _ _ (ap (λ (s : ℕ). eqb s shutDown) state ∙ ne_eqb _ _ final.if4.false)
+    (passes _ _ _ _ (ap (λ (s : ℕ). eqb s shut_down) state ∙ ne_eqb _ _ final.if4.false)
     (passes _ _ _ _ (ap (λ (s : ℕ). eqb s failed) state ∙ ne_eqb _ _ c.if5.false)
     (none_left _ _ refl)))))
 

@@ -6,14 +6,14 @@ use native.Mathlib.Omega.{arith}
 use Rattle.base.specs.Lists.{all, pairwise}
 use Rattle.regions.specs.declared.MemRegion.{MemRegion}
 use Rattle.regions.specs.Regions.{apart}
-use Rattle.region_table.specs.Tables.{regionAt, regionsOf}
+use Rattle.region_table.specs.Tables.{region_at, regions_of}
 use Rattle.region_table.proofs.Laws.{pairwise-no-region, pairwise-regions}
 use borrow.Author.Rules.{rules}
 use Rattle.region_table.proofs.all_apart.Statement.{statement}
 use Rattle.region_table.proofs.all_apart.Tie as tie
 
 abbrev invariant-loop : tie.invariant-loop
-invariant-loop s base n ok₀ i₀ ok i = (i ≤ n) × (ok ≡ pairwise apart (regionsOf base i s))
+invariant-loop s base n ok₀ i₀ ok i = (i ≤ n) × (ok ≡ pairwise apart (regions_of base i s))
 
 abbrev decreases-loop : tie.decreases-loop
 decreases-loop s base n ok₀ i₀ ok i = n - i
@@ -22,13 +22,13 @@ loop-holds : tie.Need-loop-init invariant-loop decreases-loop
 loop-holds c = (search rules, pairwise-no-region _ _ _)
 
 loop-again : tie.Need-loop-preserved invariant-loop decreases-loop
-unfolding regionAt
+unfolding region_at
 loop-again c =
     let a = c.before.before.before.before.before.args in
     let l = c.before.before.before.loop in (
       search rules,
       pairwise-regions _ _ l.i apart _ _ l.invariant.1
-          (c.apart_from.ensures ∙ ap (λ (r : MemRegion). all (λ x. apart x r) (regionsOf a.base l.i a.s.now)) c.before.region-at.ensures),
+          (c.apart_from.ensures ∙ ap (λ (r : MemRegion). all (λ x. apart x r) (regions_of a.base l.i a.s.now)) c.before.region-at.ensures),
     )
 
 returns : tie.Need-returns invariant-loop decreases-loop
@@ -36,7 +36,7 @@ returns c =
     let a = c.before.before.before.args in
     let l = c.before.loop in
     let end : l.i ≡ a.n = omega arith in
-    l.invariant.1 ∙ ap (λ (k : ℕ). pairwise apart (regionsOf a.base k a.s.now)) end
+    l.invariant.1 ∙ ap (λ (k : ℕ). pairwise apart (regions_of a.base k a.s.now)) end
 
 pub all-apart-spec : {M : Type 1} → statement M
 all-apart-spec = tie.close (tie.spec invariant-loop decreases-loop loop-holds (λ c. search rules) (λ c. search rules) (λ c. search rules) (λ c κs. search rules) (λ c κs. search rules) (λ c. search rules) (λ c. search rules) loop-again returns)

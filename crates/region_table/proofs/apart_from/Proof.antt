@@ -6,14 +6,14 @@ use native.Mathlib.Omega.{arith}
 use Rattle.base.specs.Lists.{all}
 use Rattle.regions.specs.declared.MemRegion.{MemRegion}
 use Rattle.regions.specs.Regions.{apart}
-use Rattle.region_table.specs.Tables.{regionAt, regionsOf}
+use Rattle.region_table.specs.Tables.{region_at, regions_of}
 use Rattle.region_table.proofs.Laws.{all-no-region, all-regions}
 use borrow.Author.Rules.{rules}
 use Rattle.region_table.proofs.apart_from.Statement.{statement}
 use Rattle.region_table.proofs.apart_from.Tie as tie
 
 abbrev invariant-loop : tie.invariant-loop
-invariant-loop s base n r ok₀ i₀ ok i = (i ≤ n) × (ok ≡ all (λ x. apart x r) (regionsOf base i s))
+invariant-loop s base n r ok₀ i₀ ok i = (i ≤ n) × (ok ≡ all (λ x. apart x r) (regions_of base i s))
 
 abbrev decreases-loop : tie.decreases-loop
 decreases-loop s base n r ok₀ i₀ ok i = n - i
@@ -22,7 +22,7 @@ loop-holds : tie.Need-loop-init invariant-loop decreases-loop
 loop-holds c = (search rules, all-no-region _ _ _)
 
 loop-again : tie.Need-loop-preserved invariant-loop decreases-loop
-unfolding regionAt
+unfolding region_at
 loop-again c =
     let a = c.before.before.before.before.before.args in
     let l = c.before.before.before.loop in (
@@ -35,7 +35,7 @@ returns c =
     let a = c.before.before.before.args in
     let l = c.before.loop in
     let end : l.i ≡ a.n = omega arith in
-    l.invariant.1 ∙ ap (λ (k : ℕ). all (λ x. apart x a.r) (regionsOf a.base k a.s.now)) end
+    l.invariant.1 ∙ ap (λ (k : ℕ). all (λ x. apart x a.r) (regions_of a.base k a.s.now)) end
 
 pub apart-from-spec : {M : Type 1} → statement M
 apart-from-spec = tie.close (tie.spec invariant-loop decreases-loop loop-holds (λ c. search rules) (λ c. search rules) (λ c. search rules) (λ c κs. search rules) (λ c κs. search rules) (λ c. search rules) (λ c. search rules) loop-again returns)

@@ -6,13 +6,13 @@ use native.Mathlib.Omega.{arith}
 use lib.ListN.{take}
 use Rattle.base.specs.Lists.{any}
 use Rattle.base.proofs.Lists.{any_none, any-turn, take-used}
-use Rattle.regions.specs.Regions.{insidePhys}
+use Rattle.regions.specs.Regions.{inside_phys}
 use borrow.Author.Rules.{rules}
 use Rattle.region_table.proofs.inside_one.Statement.{statement}
 use Rattle.region_table.proofs.inside_one.Tie as tie
 
 abbrev invariant-loop : tie.invariant-loop
-invariant-loop r count table n found₀ i₀ found i = (i ≤ n) × (found ≡ any (insidePhys r) (take i table))
+invariant-loop r count table n found₀ i₀ found i = (i ≤ n) × (found ≡ any (inside_phys r) (take i table))
 
 abbrev decreases-loop : tie.decreases-loop
 decreases-loop r count table n found₀ i₀ found i = n - i

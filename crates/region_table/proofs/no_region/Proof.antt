@@ -1,11 +1,11 @@
 -- `region_table::no_region` meets its contract: it is the definition. Assumes nothing.
 use mathlib.Core.Path.{refl}
-use Rattle.regions.specs.Regions.{noRegion}
+use Rattle.regions.specs.Regions.{no_region}
 use Rattle.region_table.proofs.no_region.Statement.{statement}
 use Rattle.region_table.proofs.no_region.Tie as tie
 
 returns : tie.Need-returns
-unfolding noRegion
+unfolding no_region
 returns c = refl
 
 pub no-region-spec : {M : Type 1} → statement M

@@ -3,7 +3,7 @@
 use mathlib.Core.Path.{ap, ◌∙◌}
 use native.Mathlib.Omega.{arith}
 use Rattle.base.proofs.Lists.{part-rest}
-use Rattle.regions.specs.Regions.{regionOf}
+use Rattle.regions.specs.Regions.{region_of}
 use Rattle.regions.proofs.Laws.{past-region}
 use borrow.Author.Rules.{rules}
 use Rattle.region_table.proofs.region_at.Statement.{statement}
@@ -12,7 +12,7 @@ use Rattle.region_table.proofs.region_at.Tie as tie
 returns : tie.Need-returns
 returns c =
     let a = c.before.before.before.before.args in
-    c.region-of.ensures ∙ ap regionOf (part-rest a.at a.s.now)
+    c.region-of.ensures ∙ ap region_of (part-rest a.at a.s.now)
 
 returns-2 : tie.Need-returns-2
 returns-2 c =

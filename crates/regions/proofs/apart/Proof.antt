@@ -1,11 +1,11 @@
 -- `regions::apart` meets its contract: it is the definition, with what `overlap` and `is_comm` ensure. Assumes nothing.
 use mathlib.Core.Bool.{not, ◌&&◌, ◌||◌}
-use Rattle.regions.specs.Regions.{apart, overlapVirt, overlapPhys}
+use Rattle.regions.specs.Regions.{apart, overlap_virt, overlap_phys}
 use Rattle.regions.proofs.apart.Statement.{statement}
 use Rattle.regions.proofs.apart.Tie as tie
 
 returns : tie.Need-returns
-unfolding apart overlapVirt overlapPhys
+unfolding apart overlap_virt overlap_phys
 returns c =
     let first = c.before in
     let phys = first.before in

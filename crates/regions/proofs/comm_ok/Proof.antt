@@ -1,12 +1,12 @@
 -- `regions::comm_ok` meets its contract: it is the definition, with what `is_comm` ensures. Assumes nothing.
 use mathlib.Core.Bool.{not, ◌&&◌, ◌||◌}
 use lib.Dec.{eqb}
-use Rattle.regions.specs.Regions.{commOk}
+use Rattle.regions.specs.Regions.{comm_ok}
 use Rattle.regions.proofs.comm_ok.Statement.{statement}
 use Rattle.regions.proofs.comm_ok.Tie as tie
 
 returns : tie.Need-returns
-unfolding commOk
+unfolding comm_ok
 returns c =
     let comm = c.before.before.before in
     let r = comm.before.args.r in

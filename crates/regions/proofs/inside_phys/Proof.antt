@@ -1,10 +1,10 @@
 -- `regions::inside_phys` meets its contract: it is `inside` of the physical sides. Assumes nothing.
-use Rattle.regions.specs.Regions.{insidePhys}
+use Rattle.regions.specs.Regions.{inside_phys}
 use Rattle.regions.proofs.inside_phys.Statement.{statement}
 use Rattle.regions.proofs.inside_phys.Tie as tie
 
 returns : tie.Need-returns
-unfolding insidePhys
+unfolding inside_phys
 returns c = c.inside.ensures
 
 pub inside-phys-spec : {M : Type 1} → statement M

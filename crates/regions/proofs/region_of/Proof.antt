@@ -1,10 +1,10 @@
 -- `regions::region_of` meets its contract: each field is the u64 at its offset. Assumes nothing.
-use Rattle.regions.specs.Regions.{regionOf}
+use Rattle.regions.specs.Regions.{region_of}
 use Rattle.regions.proofs.region_of.Statement.{statement}
 use Rattle.regions.proofs.region_of.Tie as tie
 
 returns : tie.Need-returns
-unfolding regionOf
+unfolding region_of
 returns c =
     let size = c.before in
     let virt = size.before in

@@ -3,14 +3,14 @@
 use mathlib.Core.Path.{◌≡◌, refl, sym, ◌∙◌}
 use Prim.Native.Nat.{◌≤◌, ◌-◌, ◌+◌}
 use lib.ListN.{length, drop}
-use Rattle.replay_log.specs.Feed.{lineLength}
+use Rattle.replay_log.specs.Feed.{line_length}
 use Rattle.replay_log.proofs.Laws.{length_more, length-stop, length-end}
 use borrow.Author.Rules.{rules}
 use Rattle.replay_log.proofs.line_end.Statement.{statement}
 use Rattle.replay_log.proofs.line_end.Tie as tie
 
 abbrev invariant-loop : tie.invariant-loop
-invariant-loop log at i₀ i = (i ≤ length log) × (i + lineLength (drop i log) ≡ at + lineLength (drop at log))
+invariant-loop log at i₀ i = (i ≤ length log) × (i + line_length (drop i log) ≡ at + line_length (drop at log))
 
 abbrev decreases-loop : tie.decreases-loop
 decreases-loop log at i₀ i = length log - i

@@ -3,7 +3,7 @@ use mathlib.Core.Path.{refl, ap}
 use Prim.Native.Nat.{ℕ, ◌+◌}
 use lib.ListN.{length}
 use borrow.Author.Rules.{rules}
-use Rattle.replay_log.proofs.Buffers.{sum_fits, put_count, put-inside, put-text, put_rest, put-size}
+use Rattle.replay_log.proofs.Buffers.{sum_fits, put_count_lem, put-inside, put-text, put_rest, put-size}
 use Rattle.replay_log.proofs.put.Statement.{statement}
 use Rattle.replay_log.proofs.put.Tie as tie
 
@@ -32,7 +32,7 @@ returns c =
     record {
       text = put-text a.answer out after a.written u.result entry.requires.1 u.ensures.0 u.ensures.1 _ refl;
       rest = put_rest a.answer out after a.written u.result entry.requires.1 u.ensures.0 u.ensures.1 _ refl;
-      ahead = ap (λ (n : ℕ). a.written + n) (put_count a.answer out after a.written u.result entry.requires.1 u.ensures.0 u.ensures.1);
+      ahead = ap (λ (n : ℕ). a.written + n) (put_count_lem a.answer out after a.written u.result entry.requires.1 u.ensures.0 u.ensures.1);
       inside = put-inside a.answer out after a.written u.result entry.requires.1 u.ensures.0 u.ensures.1 _ refl;
       size = put-size a.answer out after a.written u.result entry.requires.1 u.ensures.0 u.ensures.1 _ refl;
     }

@@ -18,20 +18,20 @@ use Rattle.machine_state.specs.declared.CommRegion.{CommRegion}
 use Rattle.machine_state.specs.declared.Cpu.{Cpu}
 use Rattle.machine_state.specs.declared.Waiting.{Waiting}
 use Rattle.machine_state.specs.declared.Machine.{Machine}
-use Rattle.rules.specs.State.{withPower, withWaiting, withCpus, withCell, withComm}
+use Rattle.rules.specs.State.{with_power, with_waiting, with_cpus, with_cell, with_comm}
 use Rattle.live_cells.proofs.Looks.{look-turn, look-less, look-end}
 use Rattle.cpu_table.proofs.Walk.{walk-less}
 use Rattle.asking.specs.declared.Effect.{Effect}
 use Rattle.asking.specs.declared.Effect.TheVariants.{NoEffect}
-use Rattle.effects.specs.Parts.{changedCell}
-use Rattle.effects.specs.Applying.{partsLeft, effectParts, TableSizes, IsNext}
+use Rattle.effects.specs.Parts.{changed_cell}
+use Rattle.effects.specs.Applying.{parts_left, effect_parts, TableSizes, IsNext}
 use Rattle.effects.proofs.Applying.{cpu-applied, cut-applied, off-applied}
 use Rattle.decide.proofs.Shell.{sets-there, scan-parts, all-parts}
-use Rattle.replay_log.specs.Feed.{feed, goingOf, keptBytes}
+use Rattle.replay_log.specs.Feed.{feed, going_of, kept_bytes}
 use Rattle.replay_log.proofs.Buffers.{kept-bytes}
 use Rattle.replay_log.proofs.Laws.{going}
 use Rattle.replay_log.proofs.Ranks.{measure, parts_cut, parts-uncut, less-line, less-piece, less-look, less-decide, less-cpu, less-part, less-change, less-store, less_done}
-use Rattle.replay_log.proofs.Standing.{Places, Stands, is-reading, is-looking, is-deciding, is-applying, is-storing, to-store, still-applying, still-reading, to-decide, machineIn}
+use Rattle.replay_log.proofs.Standing.{Places, Stands, is-reading, is-looking, is-deciding, is-applying, is-storing, to-store, still-applying, still-reading, to-decide, machine_in}
 use Rattle.replay_log.proofs.Turns.{read-on, open-places, read-line, ended-places, looked, decided, decided-places, indexed, part-done, cell-changed, cell-less, all_done, cell-put, cell-kept, done-places, cpu-stored, words-stored, cell-stored, may_read, stops-reading, as-next}
 use borrow.Author.Rules.{rules}
 use Rattle.replay_log.proofs.run.Statement.{statement}
@@ -81,7 +81,7 @@ invariant-loop log out₀ system power₀ pool-used₀ live-ids₀ root-cpus₀ 
     }) progress
 
 abbrev decreases-loop : tie.decreases-loop
-decreases-loop log out₀ system power₀ pool-used₀ live-ids₀ root-cpus₀ cells₀ comms₀ cpus₀ waiting₀ line₀ len₀ at₀ written₀ progress₀ record₀ n₀ event₀ left₀ found₀ set₀ how₀ cut₀ effect₀ cell₀ words₀ next₀ place₀ change₀ out power pool-used live-ids root-cpus cells comms cpus waiting line len at written progress «record» n event left found set how cut effect cell words next place change = measure (length log - at) progress left (partsLeft cut effect live-ids) set
+decreases-loop log out₀ system power₀ pool-used₀ live-ids₀ root-cpus₀ cells₀ comms₀ cpus₀ waiting₀ line₀ len₀ at₀ written₀ progress₀ record₀ n₀ event₀ left₀ found₀ set₀ how₀ cut₀ effect₀ cell₀ words₀ next₀ place₀ change₀ out power pool-used live-ids root-cpus cells comms cpus waiting line len at written progress «record» n event left found set how cut effect cell words next place change = measure (length log - at) progress left (parts_left cut effect live-ids) set
 
 loop-holds : tie.Need-loop-init invariant-loop decreases-loop
 unfolding feed Stands
@@ -91,10 +91,10 @@ loop-holds c =
       record {
         taken = zero-le;
         inside = zero-le;
-        outSize = refl;
-        short = low kept.len keptBytes cut.begun.result cut.begun.ensures.is;
-        lineSize = cut.begun.ensures.size;
-        bufferSize = refl;
+        out_size = refl;
+        short = low kept.len kept_bytes cut.begun.result cut.begun.ensures.is;
+        line_size = cut.begun.ensures.size;
+        buffer_size = refl;
         rest = refl;
       },
       sizes.table-sizes.ensures,
@@ -113,7 +113,7 @@ line-end-requires c κs = c.before.before.before.before.loop.invariant.0.taken
 slice-aggregate-read-line : tie.Need-slice-aggregate-read-line invariant-loop decreases-loop
 slice-aggregate-read-line c =
     let head = c.before.before.before.before.before.before.before.before.before.before.before.before.before in
-    sym head.loop.invariant.0.bufferSize
+    sym head.loop.invariant.0.buffer_size
 
 loop-less : tie.Need-loop-smaller invariant-loop decreases-loop
 loop-less c =
@@ -126,7 +126,7 @@ loop-again : tie.Need-loop-preserved invariant-loop decreases-loop
 loop-again c =
     let seen = c.before in let looks = seen.before in let read = looks.before.before in let ends = read.before.before.before.before in
     let took = ends.before.before in let found = took.before.before.before in let told = found.before in let turn = told.before.before in
-    let head = turn.before.before in let l = head.loop in let places = l.invariant.0 in let m = machineIn _ _ l.invariant.2 in
+    let head = turn.before.before in let l = head.loop in let places = l.invariant.0 in let m = machine_in _ _ l.invariant.2 in
     let fed = is-reading _ _ told.enum_told.given.1 l.invariant.2 in let p = took.append in (
       ended-places _ _ _ m _ _ _ _ _ _ places fed _ _ _ found.line-end.ensures.0 p.ensures.0 p.ensures.1.1 ends.if2.true _ _ read.read-line.ensures p.ensures.1.0,
       l.invariant.1,
@@ -144,7 +144,7 @@ loop-less-2 c =
 loop-again-2 : tie.Need-loop-preserved-2 invariant-loop decreases-loop
 loop-again-2 c =
     let took = c.before.before in let found = took.before.before.before in let told = found.before in let turn = told.before.before in
-    let head = turn.before.before in let l = head.loop in let places = l.invariant.0 in let m = machineIn _ _ l.invariant.2 in
+    let head = turn.before.before in let l = head.loop in let places = l.invariant.0 in let m = machine_in _ _ l.invariant.2 in
     let fed = is-reading _ _ told.enum_told.given.1 l.invariant.2 in let p = took.append in (
       open-places _ _ _ m _ _ _ _ _ _ places fed _ _ _ found.line-end.ensures.0 p.ensures.0 p.ensures.1.1 found.line-end.ensures.1 p.ensures.1.0,
       l.invariant.1,
@@ -219,12 +219,12 @@ loop-less-4 c =
     less-decide _ _ _ _ _ _ _ _ _ told.enum-told3.given.1 0
 
 loop-again-4 : tie.Need-loop-preserved-4 invariant-loop decreases-loop
-unfolding withCpus
+unfolding with_cpus
 loop-again-4 c =
     let wrote = c.before.before.before.before in let made = wrote.before.before.before in let scanned = made.before.before.before in
     let locks = scanned.before.before.before in let locked = locks.before in let messages = locked.before in let look = messages.before in
     let at = look.before.before in let own = at.before in let asked = own.before.before in let cpu = asked.before.before in
-    let told = cpu.before in let head = told.before.before.before.before in let l = head.loop in let m = machineIn _ _ l.invariant.2 in
+    let told = cpu.before in let head = told.before.before.before.before in let l = head.loop in let m = machine_in _ _ l.invariant.2 in
     let stands = is-deciding _ _ told.enum-told3.given.1 l.invariant.2 in let chosen = stands.0 in let d = made.decide.result in
     let sets = sets-there m _ _ _ (record { messageable = messages.messageable.result; locked = locked.locked.result }) look.looks.ensures messages.messageable.ensures locked.locked.ensures in
     let says =
@@ -234,11 +234,11 @@ loop-again-4 c =
     let back = to_z-of_z {w = w32} {z = scanned.scan.result} (record { sfits = scanned.scan.type-inv }) in
     let steps =
     made.decide.ensures.settles _ m
-    (refl, all-parts m _ _ _ cpu.cpu-for.ensures at.words-for.ensures _ _ _ _ _ sets asked.asked-for.ensures l.invariant.1.commTable back says) in (
+    (refl, all-parts m _ _ _ cpu.cpu-for.ensures at.words-for.ensures _ _ _ _ _ sets asked.asked-for.ensures l.invariant.1.comm_table back says) in (
       decided-places _ _ _ m _ _ _ _ _ _ _ _ _ _ chosen d _ _ wrote.put.ensures l.invariant.0,
       cpu-stored _ _ _ l.invariant.1 _ _,
       still-applying _ _ refl
-          (decided _ [] _ m _ [] _ _ 0 _ _ _ _ _ chosen d _ _ wrote.put.ensures _ _ l.invariant.1.cpuTable c.change-cpu.ensures steps made.decide.ensures.cell),
+          (decided _ [] _ m _ [] _ _ 0 _ _ _ _ _ chosen d _ _ wrote.put.ensures _ _ l.invariant.1.cpu_table c.change-cpu.ensures steps made.decide.ensures.cell),
     )
 
 mul-change-cpu-2 : tie.Need-overflow-mul-change-cpu-2 invariant-loop decreases-loop
@@ -276,17 +276,17 @@ loop-less-5 c =
     less-cpu _ _ _ _ _ _ told.enum-told4.given.1 _ (walk-less _ _ _ _ c.without.ensures one.single.ensures is.0 is.1)
 
 loop-again-5 : tie.Need-loop-preserved-5 invariant-loop decreases-loop
-unfolding IsNext withCpus
+unfolding IsNext with_cpus
 loop-again-5 c =
     let one = c.before in let changed = one.before in let part = changed.before.before.before in let next = part.before.before in
     let told = next.before in let head = told.before.before.before.before in let l = head.loop in
-    let is = as-next _ _ _ _ _ _ part.part.given.1 next.next-part.ensures in let m = machineIn _ _ l.invariant.2 in
+    let is = as-next _ _ _ _ _ _ part.part.given.1 next.next-part.ensures in let m = machine_in _ _ l.invariant.2 in
     let applies = is-applying _ _ told.enum-told4.given.1 l.invariant.2 in (
       l.invariant.0,
       cpu-stored _ _ _ l.invariant.1 _ _,
       still-applying _ _ told.enum-told4.given.1
           (part-done _ _ m _ _ _ _ _ _ _ _ _ _ _ _ applies _ _ _ _ _
-          (cpu-applied m l.invariant.1.cpuTable _ _ _ _ _ _ _ _ _ c.without.ensures one.single.ensures is changed.change-cpu2.ensures)),
+          (cpu-applied m l.invariant.1.cpu_table _ _ _ _ _ _ _ _ _ c.without.ensures one.single.ensures is changed.change-cpu2.ensures)),
     )
 
 mul-failed-words : tie.Need-overflow-mul-failed-words invariant-loop decreases-loop
@@ -338,21 +338,21 @@ loop-less-6 c =
     less-part _ _ _ _ _ _ told.enum-told4.given.1 _ _
     (cut-less l.cut l.effect l.live-ids is.2)
   where
-    cut-less : (cut : ℕ) (e : Effect) (ids : ℕ) → cut < 16 → partsLeft 16 e ids < partsLeft cut e ids
+    cut-less : (cut : ℕ) (e : Effect) (ids : ℕ) → cut < 16 → parts_left 16 e ids < parts_left cut e ids
     cut-less cut e ids h = omega (arith, parts_cut cut e ids h, parts-uncut 16 e ids (omega arith))
 
 loop-again-6 : tie.Need-loop-preserved-6 invariant-loop decreases-loop
-unfolding IsNext withComm
+unfolding IsNext with_comm
 loop-again-6 c =
     let part = c.before.before.before in let next = part.before.before in let told = next.before in
     let head = told.before.before.before.before in let l = head.loop in
-    let is = as-next _ _ _ _ _ _ part.part2.given.1 next.next-part.ensures in let m = machineIn _ _ l.invariant.2 in
+    let is = as-next _ _ _ _ _ _ part.part2.given.1 next.next-part.ensures in let m = machine_in _ _ l.invariant.2 in
     let applies = is-applying _ _ told.enum-told4.given.1 l.invariant.2 in (
       l.invariant.0,
       words-stored _ _ _ l.invariant.1 _ _,
       still-applying _ _ told.enum-told4.given.1
           (part-done _ _ m _ _ _ _ _ _ _ _ _ _ _ _ applies _ _ _ _ _
-          (cut-applied m l.invariant.1.cpuTable _ _ _ _ _ is.0 _ _ _ is.1 is.2 (search rules) c.failed-words.ensures)),
+          (cut-applied m l.invariant.1.cpu_table _ _ _ _ _ is.0 _ _ _ is.1 is.2 (search rules) c.failed-words.ensures)),
     )
 
 part-figures-of-end : tie.Need-slice-bounds-figures-of-end invariant-loop decreases-loop
@@ -391,7 +391,7 @@ loop-less-7 c =
     let rest = c.before in let words = rest.before in let numbers = words.before.before in let figures = numbers.before in
     let place = figures.before.before.before in let part = place.before.before in let next = part.before.before in let told = next.before in
     let head = told.before.before.before.before in let l = head.loop in
-    let is = as-next _ _ _ _ _ _ part.part3.given.1 next.next-part.ensures in let m = machineIn _ _ l.invariant.2 in
+    let is = as-next _ _ _ _ _ _ part.part3.given.1 next.next-part.ensures in let m = machine_in _ _ l.invariant.2 in
     let applies = is-applying _ _ told.enum-told4.given.1 l.invariant.2 in
     less-change _ _ _ _ _ _ told.enum-told4.given.1 _ _
     (cell-less _ _ m _ _ _ _ _ _ _ _ _ _ _ _ applies l.invariant.1 _ _ _ is place.cell-index2.ensures _ _ _ _ figures.figures-of.ensures numbers.numbers_after.ensures
@@ -403,7 +403,7 @@ loop-again-7 c =
     let rest = c.before in let words = rest.before in let numbers = words.before.before in let figures = numbers.before in
     let place = figures.before.before.before in let part = place.before.before in let next = part.before.before in let told = next.before in
     let head = told.before.before.before.before in let l = head.loop in
-    let is = as-next _ _ _ _ _ _ part.part3.given.1 next.next-part.ensures in let m = machineIn _ _ l.invariant.2 in
+    let is = as-next _ _ _ _ _ _ part.part3.given.1 next.next-part.ensures in let m = machine_in _ _ l.invariant.2 in
     let applies = is-applying _ _ told.enum-told4.given.1 l.invariant.2 in (
       l.invariant.0,
       words-stored _ _ _ l.invariant.1 _ _,
@@ -413,25 +413,25 @@ loop-again-7 c =
     )
 
 loop-less-8 : tie.Need-loop-smaller-8 invariant-loop decreases-loop
-unfolding IsNext effectParts
+unfolding IsNext effect_parts
 loop-less-8 c =
     let next = c.before.before in let told = next.before in let head = told.before.before.before.before in let l = head.loop in
     let is = as-next _ _ _ _ _ _ c.enum-told5.given.1 next.next-part.ensures in
     less-part _ _ _ _ _ _ told.enum-told4.given.1 _ _ (off_less l.cut l.effect l.live-ids is.1 is.2.less)
   where
-    off_less : (cut : ℕ) (e : Effect) (ids : ℕ) → 16 ≤ cut → 0 < effectParts e ids → partsLeft cut NoEffect ids < partsLeft cut e ids
+    off_less : (cut : ℕ) (e : Effect) (ids : ℕ) → 16 ≤ cut → 0 < effect_parts e ids → parts_left cut NoEffect ids < parts_left cut e ids
     off_less cut e ids h p = omega (arith, parts-uncut cut e ids h, parts-uncut cut NoEffect ids h)
 
 loop-again-8 : tie.Need-loop-preserved-8 invariant-loop decreases-loop
-unfolding IsNext withPower
+unfolding IsNext with_power
 loop-again-8 c =
     let next = c.before.before in let told = next.before in let head = told.before.before.before.before in let l = head.loop in
-    let is = as-next _ _ _ _ _ _ c.enum-told5.given.1 next.next-part.ensures in let m = machineIn _ _ l.invariant.2 in
+    let is = as-next _ _ _ _ _ _ c.enum-told5.given.1 next.next-part.ensures in let m = machine_in _ _ l.invariant.2 in
     let applies = is-applying _ _ told.enum-told4.given.1 l.invariant.2 in (
       l.invariant.0,
       l.invariant.1,
       still-applying _ _ told.enum-told4.given.1
-          (part-done _ _ m _ _ _ _ _ _ _ _ _ _ _ _ applies _ _ _ _ _ (off-applied m l.invariant.1.cpuTable _ _ _ _ _ is.0 is.1 _ refl is.2)),
+          (part-done _ _ m _ _ _ _ _ _ _ _ _ _ _ _ applies _ _ _ _ _ (off-applied m l.invariant.1.cpu_table _ _ _ _ _ is.0 is.1 _ refl is.2)),
     )
 
 mul-change-words : tie.Need-overflow-mul-change-words invariant-loop decreases-loop
@@ -461,23 +461,23 @@ loop-less-9 c =
     less_done _ _ _ _ _ _ told.enum-told4.given.1 _ _
 
 loop-again-9 : tie.Need-loop-preserved-9 invariant-loop decreases-loop
-unfolding IsNext withComm withWaiting
+unfolding IsNext with_comm with_waiting
 loop-again-9 c =
     let arm = c.before.before in let next = arm.before.before in let told = next.before in let head = told.before.before.before.before in
-    let l = head.loop in let is = as-next _ _ _ _ _ _ arm.enum-told6.given.1 next.next-part.ensures in let m = machineIn _ _ l.invariant.2 in
+    let l = head.loop in let is = as-next _ _ _ _ _ _ arm.enum-told6.given.1 next.next-part.ensures in let m = machine_in _ _ l.invariant.2 in
     let applies = is-applying _ _ told.enum-told4.given.1 l.invariant.2 in (
       done-places _ _ _ _ _ _ _ _ l.invariant.0,
       words-stored _ _ _ l.invariant.1 _ _,
-      still-reading _ _ refl (all_done _ _ m _ _ _ _ _ _ _ _ _ _ _ _ applies _ l.invariant.1.cpuTable is.0 is.1 is.2 c.change-words.ensures),
+      still-reading _ _ refl (all_done _ _ m _ _ _ _ _ _ _ _ _ _ _ _ applies _ l.invariant.1.cpu_table is.0 is.1 is.2 c.change-words.ensures),
     )
 
 loop-less-10 : tie.Need-loop-smaller-10 invariant-loop decreases-loop
 loop-less-10 c = let told = c.before.before in less-store _ _ _ _ _ _ told.enum-told7.given.1
 
 loop-again-10 : tie.Need-loop-preserved-10 invariant-loop decreases-loop
-unfolding withCell changedCell
+unfolding with_cell changed_cell
 loop-again-10 c =
-    let told = c.before.before in let head = told.before.before.before.before in let l = head.loop in let m = machineIn _ _ l.invariant.2 in
+    let told = c.before.before in let head = told.before.before.before.before in let l = head.loop in let m = machine_in _ _ l.invariant.2 in
     let stores = is-storing _ _ told.enum-told7.given.1 l.invariant.2 in (
       l.invariant.0,
       l.invariant.1,
@@ -503,10 +503,10 @@ loop-less-11 : tie.Need-loop-smaller-11 invariant-loop decreases-loop
 loop-less-11 c = let arm = c.before.before.before in let told = arm.before.before in less-store _ _ _ _ _ _ told.enum-told7.given.1
 
 loop-again-11 : tie.Need-loop-preserved-11 invariant-loop decreases-loop
-unfolding withCell changedCell
+unfolding with_cell changed_cell
 loop-again-11 c =
     let arm = c.before.before.before in let told = arm.before.before in let head = told.before.before.before.before in let l = head.loop in
-    let m = machineIn _ _ l.invariant.2 in let stores = is-storing _ _ told.enum-told7.given.1 l.invariant.2 in (
+    let m = machine_in _ _ l.invariant.2 in let stores = is-storing _ _ told.enum-told7.given.1 l.invariant.2 in (
       l.invariant.0,
       cell-stored _ _ _ l.invariant.1 _ _,
       still-applying _ _ refl (cell-put _ _ m _ _ _ _ _ _ _ _ _ _ _ _ _ _ stores _ _ arm.enum-told9.given.1 c.new-cell.ensures),
@@ -536,10 +536,10 @@ loop-less-12 : tie.Need-loop-smaller-12 invariant-loop decreases-loop
 loop-less-12 c = let arm = c.before.before.before in let told = arm.before.before in less-store _ _ _ _ _ _ told.enum-told7.given.1
 
 loop-again-12 : tie.Need-loop-preserved-12 invariant-loop decreases-loop
-unfolding withCell changedCell
+unfolding with_cell changed_cell
 loop-again-12 c =
     let arm = c.before.before.before in let told = arm.before.before in let head = told.before.before.before.before in let l = head.loop in
-    let m = machineIn _ _ l.invariant.2 in let stores = is-storing _ _ told.enum-told7.given.1 l.invariant.2 in (
+    let m = machine_in _ _ l.invariant.2 in let stores = is-storing _ _ told.enum-told7.given.1 l.invariant.2 in (
       l.invariant.0,
       cell-stored _ _ _ l.invariant.1 _ _,
       still-applying _ _ refl (cell-put _ _ m _ _ _ _ _ _ _ _ _ _ _ _ _ _ stores _ _ arm.change.given.1 c.with-phase.ensures),
@@ -559,20 +559,20 @@ loop-less-13 : tie.Need-loop-smaller-13 invariant-loop decreases-loop
 loop-less-13 c = let arm = c.before in let told = arm.before.before in less-store _ _ _ _ _ _ told.enum-told7.given.1
 
 loop-again-13 : tie.Need-loop-preserved-13 invariant-loop decreases-loop
-unfolding withCell changedCell
+unfolding with_cell changed_cell
 loop-again-13 c =
     let arm = c.before in let told = arm.before.before in let head = told.before.before.before.before in let l = head.loop in
-    let m = machineIn _ _ l.invariant.2 in let stores = is-storing _ _ told.enum-told7.given.1 l.invariant.2 in (
+    let m = machine_in _ _ l.invariant.2 in let stores = is-storing _ _ told.enum-told7.given.1 l.invariant.2 in (
       l.invariant.0,
       cell-stored _ _ _ l.invariant.1 _ _,
       still-applying _ _ refl (cell-put _ _ m _ _ _ _ _ _ _ _ _ _ _ _ _ _ stores _ _ arm.enum-told10.given.1 c.no_cell.ensures),
     )
 
 same_length : tie.Need-same-length invariant-loop decreases-loop
-same_length c = c.before.before.loop.invariant.0.outSize
+same_length c = c.before.before.loop.invariant.0.out_size
 
 returns : tie.Need-returns invariant-loop decreases-loop
-unfolding goingOf
+unfolding going_of
 returns c =
     let tested = c.before in let l = tested.before.loop in let sized = tested.before.before.before.before in
     let entry = sized.before.before.before.before.before.before.before.before.before in let a = entry.args in
@@ -584,8 +584,8 @@ returns c =
           ∙ is-reading _ _ stops.0 l.invariant.2;
       rest = places.rest;
       taken = places.taken;
-      written = subst (λ (n : ℕ). l.written ≤ n) places.outSize places.inside;
-      stops = ap (λ (n : ℕ). ltb l.at (length a.log.now) && leb 32 (n - l.written)) (sym places.outSize) ∙ stops.1;
+      written = subst (λ (n : ℕ). l.written ≤ n) places.out_size places.inside;
+      stops = ap (λ (n : ℕ). ltb l.at (length a.log.now) && leb 32 (n - l.written)) (sym places.out_size) ∙ stops.1;
     }
 
 pub run_spec : {M : Type 1} → statement M

@@ -6,12 +6,12 @@ use borrow.Author.Tests.{eq-eqb, ne_eqb}
 use lib.Dec.{eqb}
 use Rattle.replay_log.specs.declared.Progress.{Progress}
 use Rattle.replay_log.specs.declared.Progress.TheVariants.{Looking, Deciding}
-use Rattle.replay_log.specs.Run.{toDecide}
+use Rattle.replay_log.specs.Run.{to_decide}
 use Rattle.replay_log.proofs.to_decide.Statement.{statement}
 use Rattle.replay_log.proofs.to_decide.Tie as tie
 
-by-test : (left : ℕ) (b : Bool) → eqb left 0 ≡ b → elim b as (λ x. Progress) [ true ↦ Deciding | false ↦ Looking ] ≡ toDecide left
-unfolding toDecide
+by-test : (left : ℕ) (b : Bool) → eqb left 0 ≡ b → elim b as (λ x. Progress) [ true ↦ Deciding | false ↦ Looking ] ≡ to_decide left
+unfolding to_decide
 by-test left b e = sym (ap (λ (t : Bool). elim t as (λ x. Progress) [ true ↦ Deciding | false ↦ Looking ]) e)
 
 returns : tie.Need-returns

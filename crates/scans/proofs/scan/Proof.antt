@@ -3,18 +3,18 @@
 use mathlib.Core.Path.{refl, ◌∙◌}
 use mir.Syntax.{w32}
 use mir.Facts.{to_z-of_z}
-use Rattle.rules.specs.State.{withCpus, active}
-use Rattle.rules.specs.Create.{otherCellLocked, regionInUse}
-use Rattle.rules.specs.Effects.{counted, callCounter}
-use Rattle.live_cells.specs.Looks.{foundLive}
-use Rattle.scans.specs.Scan.{scanOf}
+use Rattle.rules.specs.State.{with_cpus, active}
+use Rattle.rules.specs.Create.{other_cell_locked, region_in_use}
+use Rattle.rules.specs.Effects.{counted, call_counter}
+use Rattle.live_cells.specs.Looks.{found_live}
+use Rattle.scans.specs.Scan.{scan_of}
 use Rattle.scans.proofs.Scans.{scan-at, create-asked, scan-create, scan-other, scan-fails, scan-holds, fault-found}
 use borrow.Author.Rules.{rules}
 use Rattle.scans.proofs.scan.Statement.{statement}
 use Rattle.scans.proofs.scan.Tie as tie
 
 returns : tie.Need-returns
-unfolding counted withCpus foundLive regionInUse otherCellLocked active
+unfolding counted with_cpus found_live region_in_use other_cell_locked active
 returns c m h =
     let tested = c.before in
     let told = tested.before.before.e.given.1 in
@@ -22,7 +22,7 @@ returns c m h =
     let asked = create-asked _ _ _ _ told tested.if1.true in
     to_z-of_z {w = w32} {z = r.result} (record { sfits = r.type-inv })
     ∙ scan-at _ m _ told (scan-create _ m _ _ _ _ _ tested.if1.true
-    (r.ensures (counted callCounter _ m) h.system h.used h.ids h.rootCpus (h.locked asked) (h.found asked)))
+    (r.ensures (counted call_counter _ m) h.system h.used h.ids h.root_cpus (h.locked asked) (h.found asked)))
 
 returns-2 : tie.Need-returns-2
 returns-2 c m h =
@@ -40,19 +40,19 @@ returns-4 c m h =
     scan-at _ m _ told (scan-holds _ m _ _ (fault-found m _ _ _ told f.before.cpu-index.ensures h f.cell-fails.ensures) c.if2.false)
 
 returns-5 : tie.Need-returns-5
-unfolding scanOf
+unfolding scan_of
 returns-5 c m h = scan-at _ m _ c.enum_told.given.1 refl
 
 returns-6 : tie.Need-returns-6
-unfolding scanOf
+unfolding scan_of
 returns-6 c m h = scan-at _ m _ c.enum-told2.given.1 refl
 
 returns-7 : tie.Need-returns-7
-unfolding scanOf
+unfolding scan_of
 returns-7 c m h = scan-at _ m _ c.enum-told3.given.1 refl
 
 returns-8 : tie.Need-returns-8
-unfolding scanOf
+unfolding scan_of
 returns-8 c m h = scan-at _ m _ c.enum-told4.given.1 refl
 
 pub scan-spec : {M : Type 1} → statement M

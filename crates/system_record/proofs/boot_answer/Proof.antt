@@ -1,7 +1,7 @@
 -- `system_record::boot_answer` meets its contract: each test is a rule of boot's table, in its order. Assumes nothing.
 use mathlib.Core.Path.{◌≡◌}
 use mathlib.Core.Bool.{true, false, not, ◌&&◌}
-use Rattle.system_record.specs.SystemRecord.{outOfRange, overdrawn}
+use Rattle.system_record.specs.SystemRecord.{out_of_range, overdrawn}
 use Rattle.system_record.proofs.Laws.{told, broken, answer-broken, answer-range, answer-overdrawn, answer-accepted}
 use Rattle.system_record.proofs.boot_answer.Statement.{statement}
 use Rattle.system_record.proofs.boot_answer.Tie as tie
@@ -17,14 +17,14 @@ returns-2 : tie.Need-returns-2
 returns-2 c =
     let kept = c.before.before in
     let start = kept.before.before.before.before in
-    let beyond : outOfRange start.args.c ≡ true = search told in
+    let beyond : out_of_range start.args.c ≡ true = search told in
     answer-range _ _ start.requires (told (found kept.before) kept.if1.false) beyond
 
 returns-3 : tie.Need-returns-3
 returns-3 c =
     let kept = c.before.before.before.before in
     let start = kept.before.before.before.before in
-    let inside : outOfRange start.args.c ≡ false = search told in
+    let inside : out_of_range start.args.c ≡ false = search told in
     let over : overdrawn start.args.c ≡ true = search told in
     answer-overdrawn _ _ start.requires (told (found kept.before) kept.if1.false) inside over
 
@@ -32,7 +32,7 @@ returns-4 : tie.Need-returns-4
 returns-4 c =
     let kept = c.before.before.before.before in
     let start = kept.before.before.before.before in
-    let inside : outOfRange start.args.c ≡ false = search told in
+    let inside : out_of_range start.args.c ≡ false = search told in
     let under : overdrawn start.args.c ≡ false = search told in
     answer-accepted _ _ start.requires (told (found kept.before) kept.if1.false) inside under
 

@@ -1,12 +1,12 @@
 -- `system_record::boot_region_ok` meets its contract: it is the definition, with what its parts ensure. Assumes nothing.
 use mathlib.Core.Bool.{◌&&◌}
 use lib.Dec.{ltb}
-use Rattle.system_record.specs.SystemRecord.{bootRegionOk}
+use Rattle.system_record.specs.SystemRecord.{boot_region_ok}
 use Rattle.system_record.proofs.boot_region_ok.Statement.{statement}
 use Rattle.system_record.proofs.boot_region_ok.Tie as tie
 
 returns : tie.Need-returns
-unfolding bootRegionOk
+unfolding boot_region_ok
 returns c =
     let flags = c.before.before in
     let placed = flags.before in

@@ -3,15 +3,15 @@ use mathlib.Core.Path.{◌≡◌, refl, ◌∙◌}
 use Prim.Native.Nat.{◌≤◌, ◌-◌}
 use native.Mathlib.Omega.{arith}
 use lib.ListN.{length, length-set}
-use Rattle.region_table.specs.Tables.{maxBootRegions, regionAt}
+use Rattle.region_table.specs.Tables.{max_boot_regions, region_at}
 use Rattle.region_table.proofs.Laws.{Filled, filled_none, filled_more, filled-all}
-use Rattle.system_record.specs.SystemRecord.{systemOf}
+use Rattle.system_record.specs.SystemRecord.{system_of}
 use borrow.Author.Rules.{rules}
 use Rattle.system_record.proofs.boot_table.Statement.{statement}
 use Rattle.system_record.proofs.boot_table.Tie as tie
 
 abbrev invariant-loop : tie.invariant-loop
-invariant-loop s n table₀ i₀ table i = (i ≤ n) × (length table ≡ maxBootRegions) × Filled maxBootRegions 96 s i table
+invariant-loop s n table₀ i₀ table i = (i ≤ n) × (length table ≡ max_boot_regions) × Filled max_boot_regions 96 s i table
 
 abbrev decreases-loop : tie.decreases-loop
 decreases-loop s n table₀ i₀ table i = n - i
@@ -20,7 +20,7 @@ loop-holds : tie.Need-loop-init invariant-loop decreases-loop
 loop-holds c = (search rules, refl, filled_none _ _ _ _ c.no-region.ensures)
 
 loop-again : tie.Need-loop-preserved invariant-loop decreases-loop
-unfolding regionAt
+unfolding region_at
 loop-again c =
     let l = c.before.before.loop in (
       search rules,
@@ -29,7 +29,7 @@ loop-again c =
     )
 
 returns : tie.Need-returns invariant-loop decreases-loop
-unfolding systemOf
+unfolding system_of
 returns c =
     let l = c.before.loop in
     filled-all _ _ _ l.table l.invariant.1 _ _ l.i c.before.before.before.region-count.ensures l.invariant.0 c.loop-test.false l.invariant.2

@@ -1,13 +1,13 @@
 -- `system_record::out_of_range` meets its contract: it is the definition, with what its parts ensure. Assumes nothing.
 use mathlib.Core.Bool.{not, ◌&&◌, ◌||◌}
 use lib.Dec.{leb}
-use Rattle.system_record.specs.SystemRecord.{outOfRange}
+use Rattle.system_record.specs.SystemRecord.{out_of_range}
 use borrow.Author.Rules.{rules}
 use Rattle.system_record.proofs.out_of_range.Statement.{statement}
 use Rattle.system_record.proofs.out_of_range.Tie as tie
 
 returns : tie.Need-returns
-unfolding outOfRange
+unfolding out_of_range
 returns c =
     let pool = c.before in
     let below = pool.before in

@@ -3,12 +3,12 @@
 use mathlib.Core.Path.{◌∙◌}
 use mir.Syntax.{w32}
 use mir.Facts.{to_z-of_z}
-use Rattle.system_record.specs.SystemRecord.{readSystem}
+use Rattle.system_record.specs.SystemRecord.{read_system}
 use Rattle.system_record.proofs.read_system.Statement.{statement}
 use Rattle.system_record.proofs.read_system.Tie as tie
 
 returns : tie.Need-returns
-unfolding readSystem
+unfolding read_system
 returns c =
     let code = to_z-of_z {w = w32} {z = c.boot-answer.result} (record { sfits = c.boot-answer.type-inv }) ∙ c.boot-answer.ensures in
     λ i. record { code = code i; config = c.before.system-of.ensures i }

@@ -5,14 +5,14 @@ use Prim.Native.Nat.{◌+◌, ◌*◌}
 use lib.Dec.{leb, eqb}
 use lib.ListN.{length}
 use Rattle.fields.specs.Fields.{zeros}
-use Rattle.region_table.specs.Tables.{maxBootRegions}
-use Rattle.system_record.specs.SystemRecord.{systemForm}
+use Rattle.region_table.specs.Tables.{max_boot_regions}
+use Rattle.system_record.specs.SystemRecord.{system_form}
 use borrow.Author.Rules.{rules}
 use Rattle.system_record.proofs.system_form.Statement.{statement}
 use Rattle.system_record.proofs.system_form.Tie as tie
 
 returns : tie.Need-returns
-unfolding systemForm
+unfolding system_form
 returns c =
     let from-50 = c.before.before in
     let version = from-50.before.before in
@@ -28,7 +28,7 @@ returns c =
     && zero-3 i
     && eqb (version.u16-at2.ensures i) 1
     && leb 1 (n i)
-    && leb (n i) maxBootRegions
+    && leb (n i) max_boot_regions
     && zero-50 i
     && zero-90 i
     && eqb (length r) (96 + 32 * n i)

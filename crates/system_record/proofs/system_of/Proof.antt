@@ -1,13 +1,13 @@
 -- `system_record::system_of` meets its contract: each value is what its reader ensures. Assumes nothing.
 use mathlib.Core.Path.{ap, ◌∙◌}
 use Rattle.fields.specs.Fields.{padded}
-use Rattle.system_record.specs.SystemRecord.{systemOf}
+use Rattle.system_record.specs.SystemRecord.{system_of}
 use borrow.Author.Rules.{rules}
 use Rattle.system_record.proofs.system_of.Statement.{statement}
 use Rattle.system_record.proofs.system_of.Tie as tie
 
 returns : tie.Need-returns
-unfolding systemOf
+unfolding system_of
 returns c =
     let count = c.before.before.before.before.before.before.before.before.before.before.before.before.u16-at.ensures in
     let name = c.before.before.before.before.before.before.before.before.before.before.name_of.ensures ∙ ap (padded 32) c.before.before.before.before.before.before.before.before.before.before.before.part.ensures in

@@ -1,7 +1,7 @@
 -- `unobeyed::admit_poll` meets its contract: each test is a row of the table, in its order. Assumes nothing.
 use Rattle.machine_state.specs.declared.Answer.TheVariants.{Off, Idle}
 use Rattle.rules.specs.State.{waits}
-use Rattle.rules.specs.Unobeyed.{isOn, unobeyed}
+use Rattle.rules.specs.Unobeyed.{is_on, unobeyed}
 use Rattle.unobeyed.specs.Admission.{Placed}
 use Rattle.unobeyed.proofs.Laws.{applies, passes, negated, none_left, not-admitted}
 use borrow.Author.Rules.{rules}
@@ -10,7 +10,7 @@ use Rattle.unobeyed.proofs.admit_poll.Tie as tie
 
 returns : tie.Need-returns
 unfolding unobeyed
-returns c = record { follows = λ m p b k w. applies m _ Off _ (negated isOn _ _ _ _ p c.before.is-on.ensures c.if1.true); placed = λ q. absurd (not-admitted Off q) }
+returns c = record { follows = λ m p b k w. applies m _ Off _ (negated is_on _ _ _ _ p c.before.is-on.ensures c.if1.true); placed = λ q. absurd (not-admitted Off q) }
 
 returns-2 : tie.Need-returns-2
 unfolding unobeyed
@@ -18,7 +18,7 @@ returns-2 c =
     let on = c.before.before in
     record {
       follows = λ m p b k w.
-          passes m _ _ _ (negated isOn _ _ _ _ p on.before.is-on.ensures on.if1.false)
+          passes m _ _ _ (negated is_on _ _ _ _ p on.before.is-on.ensures on.if1.false)
           (applies m _ Idle _ (negated waits _ _ _ _ w c.before.waits.ensures c.if2.true));
       placed = λ q. absurd (not-admitted Idle q);
     }
@@ -29,7 +29,7 @@ returns-3 c =
     let on = c.before.before in
     record {
       follows = λ m p b k w.
-          passes m _ _ _ (negated isOn _ _ _ _ p on.before.is-on.ensures on.if1.false)
+          passes m _ _ _ (negated is_on _ _ _ _ p on.before.is-on.ensures on.if1.false)
           (passes m _ _ _ (negated waits _ _ _ _ w c.before.waits.ensures c.if2.false)
           (none_left m));
       placed = λ q. tt;

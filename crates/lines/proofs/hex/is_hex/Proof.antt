@@ -4,14 +4,14 @@ use Prim.Native.Nat.{◌-◌}
 use lib.ListN.{length, take}
 use Rattle.base.specs.Lists.{all}
 use Rattle.base.proofs.Lists.{all-turn, all_none}
-use Rattle.lines.specs.Lines.{isHexDigit}
+use Rattle.lines.specs.Lines.{is_hex_digit}
 use Rattle.lines.proofs.PairLaws.{no_pairs, odd-pairs, even-pairs}
 use borrow.Author.Rules.{rules}
 use Rattle.lines.proofs.hex.is_hex.Statement.{statement}
 use Rattle.lines.proofs.hex.is_hex.Tie as tie
 
 abbrev invariant-loop : tie.invariant-loop
-invariant-loop w ok₀ i₀ ok i = ok ≡ all isHexDigit (take i w)
+invariant-loop w ok₀ i₀ ok i = ok ≡ all is_hex_digit (take i w)
 
 abbrev decreases-loop : tie.decreases-loop
 decreases-loop w ok₀ i₀ ok i = length w - i
@@ -23,12 +23,12 @@ returns-2 : tie.Need-returns-2 invariant-loop decreases-loop
 returns-2 c = odd-pairs _ c.if2.true
 
 loop-holds : tie.Need-loop-init invariant-loop decreases-loop
-loop-holds c = all_none isHexDigit c.before.before.before.args.w.now
+loop-holds c = all_none is_hex_digit c.before.before.before.args.w.now
 
 loop-again : tie.Need-loop-preserved invariant-loop decreases-loop
 loop-again c =
     let l = c.before.before.before.loop in
-    all-turn isHexDigit c.before.before.before.before.before.before.before.args.w.now l.i 0 _ _ l.invariant c.is-hex-digit.ensures c.before.before.loop-test.true
+    all-turn is_hex_digit c.before.before.before.before.before.before.before.args.w.now l.i 0 _ _ l.invariant c.is-hex-digit.ensures c.before.before.loop-test.true
 
 returns-3 : tie.Need-returns-3 invariant-loop decreases-loop
 returns-3 c = even-pairs _ _ _ c.before.before.before.if1.false c.before.before.if2.false c.loop-test.false c.before.loop.invariant

@@ -4,14 +4,14 @@ use mathlib.Core.Path.{◌≡◌, refl, ◌∙◌}
 use Prim.Native.Nat.{◌-◌, ◌<◌, ◌^◌}
 use borrow.Author.Tests.{not-true, not-false}
 use lib.ListN.{length, drop}
-use Rattle.lines.specs.Reading.{withDigits}
+use Rattle.lines.specs.Reading.{with_digits}
 use Rattle.lines.proofs.NumberLaws.{digits-stop, digits-turn, digits-end}
 use borrow.Author.Rules.{rules}
 use Rattle.lines.proofs.numbers.digits_of.Statement.{statement}
 use Rattle.lines.proofs.numbers.digits_of.Tie as tie
 
 abbrev invariant-loop : tie.invariant-loop
-invariant-loop w n₀ i₀ n i = (n < 2 ^ 64) × (withDigits n (drop i w) ≡ withDigits 0 w)
+invariant-loop w n₀ i₀ n i = (n < 2 ^ 64) × (with_digits n (drop i w) ≡ with_digits 0 w)
 
 abbrev decreases-loop : tie.decreases-loop
 decreases-loop w n₀ i₀ n i = length w - i

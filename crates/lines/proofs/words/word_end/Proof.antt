@@ -3,14 +3,14 @@
 use mathlib.Core.Path.{◌≡◌, refl, sym, ◌∙◌}
 use Prim.Native.Nat.{◌-◌}
 use lib.ListN.{length}
-use Rattle.lines.specs.Reading.{wordEnd}
+use Rattle.lines.specs.Reading.{word_end}
 use Rattle.lines.proofs.WordLaws.{end_more, end-stop, end-past}
 use borrow.Author.Rules.{rules}
 use Rattle.lines.proofs.words.word_end.Statement.{statement}
 use Rattle.lines.proofs.words.word_end.Tie as tie
 
 abbrev invariant-loop : tie.invariant-loop
-invariant-loop s at i₀ i = wordEnd i s ≡ wordEnd at s
+invariant-loop s at i₀ i = word_end i s ≡ word_end at s
 
 abbrev decreases-loop : tie.decreases-loop
 decreases-loop s at i₀ i = length s - i
