@@ -79,9 +79,10 @@ def main():
     for path in specs + proofs + rust + edits:
         text = old = open(path, encoding="utf-8").read()
         if path in APART:
-            # not below a dot: there the name is a function's
+            # not below a dot, where the name is a function's, but for the fields of Sharp's own record
+            dot = "" if path.endswith("/Sharp.antt") else "."
             text = re.sub(
-                r"(?<![.A-Za-z0-9_'\-])(%s)(?![A-Za-z0-9_'\-])" % "|".join(APART[path]),
+                r"(?<![%sA-Za-z0-9_'\-])(%s)(?![A-Za-z0-9_'\-])" % (dot, "|".join(APART[path])),
                 lambda m: APART[path][m.group(1)],
                 text,
             )
