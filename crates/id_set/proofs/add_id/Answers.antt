@@ -6,4 +6,4 @@ use Rattle.std.proofs.Common.{rules}
 use Rattle.id_set.proofs.add_id.Goals as goal
 
 pub returns : goal.returns
-returns c = ap (λ (n : ℕ). n % 2 ^ 16) c.union.ensures ∙ added c.args.«live-ids» c.single.result c.args.id c.single.ensures
+returns c = ap (λ (n : ℕ). n % 2 ^ 16) c.union.ensures ∙ added c.args.live_ids c.single.result c.args.id c.single.ensures

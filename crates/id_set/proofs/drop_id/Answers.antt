@@ -6,4 +6,4 @@ use Rattle.std.proofs.Common.{rules}
 use Rattle.id_set.proofs.drop_id.Goals as goal
 
 pub returns : goal.returns
-returns c = ap (λ (n : ℕ). n % 2 ^ 16) c.without.ensures ∙ dropped c.args.«live-ids» c.single.result c.args.id c.single.ensures
+returns c = ap (λ (n : ℕ). n % 2 ^ 16) c.without.ensures ∙ dropped c.args.live_ids c.single.result c.args.id c.single.ensures

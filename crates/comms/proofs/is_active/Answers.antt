@@ -6,9 +6,8 @@ use lib.Dec.{eqb}
 use Rattle.machine_state.specs.declared.CommRegion.{CommRegion}
 use Rattle.machine_state.specs.declared.Machine.{Machine}
 use Rattle.rules.specs.State.{root_id, has_id, comm_at, is_final, active}
-use borrow.Author.Rules.{rules}
-use Rattle.comms.proofs.is_active.Statement.{statement}
-use Rattle.comms.proofs.is_active.Tie as tie
+use Rattle.std.proofs.Common.{rules}
+use Rattle.comms.proofs.is_active.Goals as goal
 
 here : (ids id : ℕ) (w : CommRegion) (live final : Bool) → live ≡ has_id ids id → final ≡ is_final w.cell_state
     → (m : Machine) → m.live_ids ≡ ids → comm_at m id ≡ w → (not (eqb id root_id) && live && not final) ≡ active m id
@@ -18,8 +17,5 @@ here ids id w live final l s m e f =
     (l ∙ ap (λ (n : ℕ). has_id n id) (sym e))
     (s ∙ ap (λ (v : CommRegion). is_final v.cell_state) (sym f))
 
-returns : tie.Need-returns
-returns c = here _ _ _ _ _ c.before.is_live.ensures c.is-final.ensures
-
-pub is-active-spec : {M : Type 1} → statement M
-is-active-spec = tie.close (tie.spec (λ c κs. search rules) (λ c κs. search rules) returns)
+pub returns : goal.returns
+returns c = here _ _ _ _ _ c.is_live.ensures c.is_final.ensures

@@ -5,16 +5,12 @@ use lib.Dec.{eqb}
 use Rattle.machine_state.specs.declared.CommRegion.{CommRegion}
 use Rattle.rules.specs.State.{is_final}
 use Rattle.rules.specs.Asking.{consents, request_approved}
-use borrow.Author.Rules.{rules}
-use Rattle.comms.proofs.consents.Statement.{statement}
-use Rattle.comms.proofs.consents.Tie as tie
+use Rattle.std.proofs.Common.{rules}
+use Rattle.comms.proofs.consents.Goals as goal
 
 consented : (w : CommRegion) (final : Bool) → final ≡ is_final w.cell_state → (final || eqb w.reply_from_cell request_approved) ≡ consents w
 unfolding consents
 consented w final e = ap (λ (b : Bool). b || eqb w.reply_from_cell request_approved) e
 
-returns : tie.Need-returns
-returns c = consented _ _ c.before.is-final.ensures
-
-pub consents-spec : {M : Type 1} → statement M
-consents-spec = tie.close (tie.spec (λ c κs. search rules) returns)
+pub returns : goal.returns
+returns c = consented _ _ c.is_final.ensures
