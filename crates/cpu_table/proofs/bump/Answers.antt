@@ -7,7 +7,7 @@ use Rattle.cpu_table.proofs.bump.Goals as goal
 
 pub returns-then-i-lt6 : goal.returns-then-i-lt6
 unfolding bump
-returns-then-i-lt6 c = ap (set c.args.counters c.args.i) c.wrapping_add_u32.ensures
+returns-then-i-lt6 c = ap (set c.args.counters c.args.i) c.wrapping_add_u32.ensures.value
 
 pub returns-else-i-lt6 : goal.returns-else-i-lt6
 unfolding bump

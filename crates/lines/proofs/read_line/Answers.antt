@@ -17,6 +17,6 @@ returns c =
     let e = hex-record _ _ c.cut_line-read.ensures.hex in
     record {
       event = c.cut_line-read.ensures.event;
-      size = c.decode-len.ensures.0 ∙ ap (λ (r : List ℕ). min (length r) (length bytes)) e;
-      bytes = c.decode-len.ensures.1 ∙ ap (λ (r : List ℕ). take n r ++ drop n bytes) e;
+      size = c.decode-len.ensures.value ∙ ap (λ (r : List ℕ). min (length r) (length bytes)) e;
+      bytes = c.decode-len.ensures.out_after ∙ ap (λ (r : List ℕ). take n r ++ drop n bytes) e;
     }

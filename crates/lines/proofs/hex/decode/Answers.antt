@@ -23,7 +23,7 @@ pub loop-n-preserved : goal.loop-n-preserved
 loop-n-preserved c =
     (
       omega arith,
-      byte-stored c.args.w.now c.args.out.now c.loop-n.out c.loop-n.n _ _ (omega arith) (omega arith) c.hex_digit-high.ensures.0 c.hex_digit-low.ensures.0 c.loop-n.invariant.1,
+      byte-stored c.args.w.now c.args.out.now c.loop-n.out c.loop-n.n _ _ (omega arith) (omega arith) c.hex_digit-high.ensures.value c.hex_digit-low.ensures.value c.loop-n.invariant.1,
       length-set c.loop-n.out c.loop-n.n _ ∙ c.loop-n.invariant.2,
     )
 
@@ -31,4 +31,4 @@ pub shape_of-out : goal.shape_of-out
 shape_of-out c = c.loop-n.invariant.2
 
 pub returns : goal.returns
-returns c = (omega (arith, length-bytes c.args.w.now), c.loop-n.invariant.1)
+returns c = record { value = omega (arith, length-bytes c.args.w.now); out_after = c.loop-n.invariant.1 }

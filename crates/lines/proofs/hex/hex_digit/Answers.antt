@@ -11,8 +11,8 @@ overflow_sub-result-else-b-le57 c = (high_digit _ c.requires c.if-b-le57.false).
 
 pub returns-then-b-le57 : goal.returns-then-b-le57
 returns-then-b-le57 c =
-    let d = low_digit _ c.requires c.if-b-le57.true in (d.1, d.2)
+    let d = low_digit _ c.requires c.if-b-le57.true in record { value = d.1; upper_bound = d.2 }
 
 pub returns-else-b-le57 : goal.returns-else-b-le57
 returns-else-b-le57 c =
-    let d = high_digit _ c.requires c.if-b-le57.false in (d.1, d.2)
+    let d = high_digit _ c.requires c.if-b-le57.false in record { value = d.1; upper_bound = d.2 }

@@ -5,7 +5,7 @@ use Rattle.std.proofs.Common.{rules}
 use Rattle.lines.proofs.numbers.word32_number.Goals as goal
 
 pub returns-then-value-gt4294967295 : goal.returns-then-value-gt4294967295
-returns-then-value-gt4294967295 c = (no-number-32 _ _ c.word_number-n.ensures (omega arith), omega arith)
+returns-then-value-gt4294967295 c = record { value = no-number-32 _ _ c.word_number-n.ensures (omega arith); value_bound = omega arith }
 
 pub returns : goal.returns
-returns c = (number-32 _ _ c.word_number-n.ensures (omega arith), omega arith)
+returns c = record { value = number-32 _ _ c.word_number-n.ensures (omega arith); value_bound = omega arith }
