@@ -26,3 +26,11 @@ returns-then-cpus-ne0 c = (c.first_cpu.ensures.inside, c.first_cpu.ensures.is c.
 
 pub returns-in-Comes : goal.returns-in-Comes
 returns-in-Comes c = comes-next _ _ _ _ _ _ _ c.if-cpus-ne0.false c.if-cut-lt-MAX_CELLS.false c.in-Comes.is c.effect_part.ensures
+
+pub returns-then-cut-lt-MAX_CELLS : goal.returns-then-cut-lt-MAX_CELLS
+unfolding IsNext
+returns-then-cut-lt-MAX_CELLS c = search rules
+
+pub returns-in-NoEffect : goal.returns-in-NoEffect
+unfolding IsNext
+returns-in-NoEffect c = search rules

@@ -26,7 +26,7 @@ pub overflow_add-result : goal.overflow_add-result
 unfolding has_virt
 overflow_add-result c =
     record {
-      fits = page-sum _ _ _ c.struct_known-1.is.0.fits
+      fits = page-sum _ _ _ c.struct_known-1.given.0.fits
           (page-small _ _ _ (sym c.has_virt.ensures ∙ not-false _ (ap not c.if-not-has_virt.false)));
     }
 
