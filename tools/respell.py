@@ -18,6 +18,8 @@ import sys
 
 # Names that would fall together with another one in the same scope: (file, old) -> new, before all else.
 APART = {
+    "crates/apply/src/lib.rt": {"effect_of": "call_effect"},
+    "crates/regions/src/lib.rt": {"Apart-of": "apart_of"},
     "crates/cell_rules/proofs/cell_valid/Proof.antt": {"is_name": "is_named"},
     "crates/system_record/proofs/system_valid/Proof.antt": {"is_name": "is_named"},
     "crates/reached/proofs/Runs.antt": {"no_cell": "no_cell_lem"},

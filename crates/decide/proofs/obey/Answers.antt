@@ -12,21 +12,21 @@ use Rattle.decide.proofs.obey.Goals as goal
 
 pub store-requires : goal.store-requires
 unfolding Placed
-store-requires c = places _ c.in-Store.is c.requires
+store-requires c = places c.args.p c.in-Store.is c.requires
 
 pub fault-requires : goal.fault-requires
 unfolding Placed
-fault-requires c = places _ c.in-Fault.is c.requires
+fault-requires c = places c.args.p c.in-Fault.is c.requires
 
 pub exit-requires : goal.exit-requires
 unfolding Placed
-exit-requires c = places _ c.in-Exit.is c.requires
+exit-requires c = places c.args.p c.in-Exit.is c.requires
 
 pub returns-in-Call : goal.returns-in-Call
 unfolding Placed
 returns-in-Call c bytes =
     let told = c.in-Call.is in
-    let inside = places _ told c.requires in
+    let inside = places c.args.p told c.requires in
     let same = to_z-of_z {w = w32} {z = c.args.scan} c.ranges.scan in
     at-event bytes told (calls _ _ _ _ bytes _ inside (λ m h. call-passed same (call-parts m _ _ _ _ inside h)) (c.call-moves.ensures bytes))
 
@@ -34,7 +34,7 @@ pub returns-in-Store : goal.returns-in-Store
 unfolding obeyed Placed
 returns-in-Store c bytes =
     let told = c.in-Store.is in
-    let inside = (places _ told c.requires).0 in
+    let inside = (places c.args.p told c.requires).0 in
     at-event bytes told
     (settles-as (c.store.ensures _) (λ m h. (own-cpu m _ _ _ inside h.shows.looks, h.parts.waits)) (λ m h. refl))
 
@@ -42,7 +42,7 @@ pub returns-in-Fault : goal.returns-in-Fault
 unfolding obeyed Placed
 returns-in-Fault c bytes =
     let told = c.in-Fault.is in
-    let inside = places _ told c.requires in
+    let inside = places c.args.p told c.requires in
     let same = to_z-of_z {w = w32} {z = c.args.scan} c.ranges.scan in
     at-event bytes told (settles-as (c.fault.ensures _) (λ m h. faulty m _ inside (all-passed same h)) (λ m h. refl))
 
