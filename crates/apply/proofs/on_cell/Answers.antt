@@ -1,6 +1,5 @@
 -- `apply::on_cell` meets its contract: the parts, stored at the cell's place, make the rule's machine. Assumes nothing.
 use mathlib.Core.Path.{◌≡◌, sym, ap, ◌∙◌}
-use lib.ListN.{length-map}
 use Rattle.cell_record.specs.declared.CellConfig.{CellConfig}
 use Rattle.machine_state.specs.declared.Cell.{Cell}
 use Rattle.effects.specs.declared.CellChange.{CellChange}
@@ -17,7 +16,7 @@ unfolding parts_stored
 returns c q =
     let m = c.args.m in
     let tables = c.well_formed.0.1.1.1.1.1.1.1 in
-    let cells = sym (length-map m.cells _) ∙ tables.0.1.0.1 in
-    let comms = sym (length-map m.comms _) ∙ tables.1.0.1.0.1 in
+    let cells = tables.0.1.0.1 in
+    let comms = tables.1.0.1.0.1 in
     stored-is-effect _ _ _ _ m c.cell_index-i.ensures.is cells comms _ _ _ _ _ q c.figures_of-new.ensures c.numbers_after-numbers.ensures
     (as-change _ _ _ _ _ c.cell_after.ensures c.cell_change.ensures) c.words_after.ensures c.change_cpus-m.ensures
