@@ -8,18 +8,23 @@ use Rattle.texts.proofs.Laws.{put_both, put_byte, put-length, put-room, signed-s
 use Rattle.std.proofs.Common.{rules}
 use Rattle.texts.proofs.put_code.Goals as goal
 
--- the word and the number
-both : (c : tie.After-slice-known3) → Put 0 (c.before.before.before.before.before.before.before.before.before.before.args.word.now ++ signed c.before.before.before.before.before.before.before.before.before.before.args.code) c.before.before.before.before.before.before.before.before.before.before.args.out.now c.before.before.put-signed.result c.before.before.put-signed.new.1.1.0
-both c = rw (← to_z-of_z c.before.before.before.before.before.before.before.before.before.before.ranges.code) (put_both _ _ c.before.before.before.before.before.before.put.ensures c.before.before.put-signed.ensures)
-
+-- in each answer, `both` says that the word and the number stand there
 pub bounds-out-end : goal.bounds-out-end
-bounds-out-end c = put-room c.args.word.now (signed c.args.code) 21 (both (goal.at.bounds-out-end c).After-slice_known-3-1) (signed-short _) (omega arith)
+bounds-out-end c =
+    let both : Put 0 (c.args.word.now ++ signed c.args.code) c.args.out.now c.put_signed-end.result c.put_signed-end.new.out = rw (← to_z-of_z c.ranges.code) (put_both _ _ c.put-at.ensures c.put_signed-end.ensures) in
+    put-room c.args.word.now (signed c.args.code) 21 both (signed-short _) (omega arith)
 
 pub overflow_add-result : goal.overflow_add-result
-overflow_add-result c = omega (arith, slice-write-out (goal.at.overflow_add-result c).After-slice_known-3-1, put-length (both (goal.at.overflow_add-result c).After-slice_known-3-1))
+overflow_add-result c =
+    let both : Put 0 (c.args.word.now ++ signed c.args.code) c.args.out.now c.put_signed-end.result c.put_signed-end.new.out = rw (← to_z-of_z c.ranges.code) (put_both _ _ c.put-at.ensures c.put_signed-end.ensures) in
+    let room = put-room c.args.word.now (signed c.args.code) 21 both (signed-short _) (omega arith) in omega (arith, put-length both)
 
 pub returns : goal.returns
-returns c = put_byte _ 10 (both (goal.at.returns c).After-slice_known-3-1)
+returns c =
+    let both : Put 0 (c.args.word.now ++ signed c.args.code) c.args.out.now c.put_signed-end.result c.put_signed-end.new.out = rw (← to_z-of_z c.ranges.code) (put_both _ _ c.put-at.ensures c.put_signed-end.ensures) in
+    put_byte _ 10 both
 
 pub shape_of-out : goal.shape_of-out
-shape_of-out c = put-length (returns (goal.at.shape_of-out c).After-slice_known-3-1)
+shape_of-out c =
+    let both : Put 0 (c.args.word.now ++ signed c.args.code) c.args.out.now c.put_signed-end.result c.put_signed-end.new.out = rw (← to_z-of_z c.ranges.code) (put_both _ _ c.put-at.ensures c.put_signed-end.ensures) in
+    put-length (put_byte _ 10 both)

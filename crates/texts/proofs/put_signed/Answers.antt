@@ -13,7 +13,7 @@ pub returns-then-n-lt0 : goal.returns-then-n-lt0
 returns-then-n-lt0 c = put-below (to_z-of_z c.ranges.n) c.if-n-lt0.true c.magnitude.ensures c.put_decimal.ensures
 
 pub shape_of-out-then-n-lt0 : goal.shape_of-out-then-n-lt0
-shape_of-out-then-n-lt0 c = put-length (returns (goal.at.shape_of-out-then-n-lt0 c).After-slice_known-then-n-lt0-1)
+shape_of-out-then-n-lt0 c = put-length (put-below (to_z-of_z c.ranges.n) c.if-n-lt0.true c.magnitude.ensures c.put_decimal.ensures)
 
 pub returns-else-n-lt0 : goal.returns-else-n-lt0
 returns-else-n-lt0 c = put-from (to_z-of_z c.ranges.n) c.if-n-lt0.false c.magnitude-else-n-lt0.ensures c.put_decimal-else-n-lt0.ensures

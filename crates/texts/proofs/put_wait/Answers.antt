@@ -7,18 +7,23 @@ use Rattle.texts.proofs.Laws.{put_both, put_byte, put-length, put-room, decimal-
 use Rattle.std.proofs.Common.{rules}
 use Rattle.texts.proofs.put_wait.Goals as goal
 
--- the word and the number
-both : (c : tie.After-slice-known3) → Put 0 (wait_text ++ decimal c.before.before.before.before.before.before.before.before.before.before.args.cell) c.before.before.before.before.before.before.before.before.before.before.args.out.now c.before.before.put-decimal.result c.before.before.put-decimal.new.1.1.0
-both c = put_both wait_text (decimal _) c.before.before.before.before.before.before.put.ensures c.before.before.put-decimal.ensures
-
+-- in each answer, `both` says that the word and the number stand there
 pub bounds-out-end : goal.bounds-out-end
-bounds-out-end c = put-room wait_text (decimal c.args.cell) 20 (both (goal.at.bounds-out-end c).After-slice_known-3-1) (decimal-short _) (omega arith)
+bounds-out-end c =
+    let both : Put 0 (wait_text ++ decimal c.args.cell) c.args.out.now c.put_decimal-end.result c.put_decimal-end.new.out = put_both wait_text (decimal _) c.put-at.ensures c.put_decimal-end.ensures in
+    put-room wait_text (decimal c.args.cell) 20 both (decimal-short _) (omega arith)
 
 pub overflow_add-result : goal.overflow_add-result
-overflow_add-result c = omega (arith, slice-write-out (goal.at.overflow_add-result c).After-slice_known-3-1, put-length (both (goal.at.overflow_add-result c).After-slice_known-3-1))
+overflow_add-result c =
+    let both : Put 0 (wait_text ++ decimal c.args.cell) c.args.out.now c.put_decimal-end.result c.put_decimal-end.new.out = put_both wait_text (decimal _) c.put-at.ensures c.put_decimal-end.ensures in
+    let room = put-room wait_text (decimal c.args.cell) 20 both (decimal-short _) (omega arith) in omega (arith, put-length both)
 
 pub returns : goal.returns
-returns c = put_byte _ 10 (both (goal.at.returns c).After-slice_known-3-1)
+returns c =
+    let both : Put 0 (wait_text ++ decimal c.args.cell) c.args.out.now c.put_decimal-end.result c.put_decimal-end.new.out = put_both wait_text (decimal _) c.put-at.ensures c.put_decimal-end.ensures in
+    put_byte _ 10 both
 
 pub shape_of-out : goal.shape_of-out
-shape_of-out c = put-length (returns (goal.at.shape_of-out c).After-slice_known-3-1)
+shape_of-out c =
+    let both : Put 0 (wait_text ++ decimal c.args.cell) c.args.out.now c.put_decimal-end.result c.put_decimal-end.new.out = put_both wait_text (decimal _) c.put-at.ensures c.put_decimal-end.ensures in
+    put-length (put_byte _ 10 both)
