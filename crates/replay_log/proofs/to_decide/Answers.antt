@@ -7,18 +7,15 @@ use lib.Dec.{eqb}
 use Rattle.replay_log.specs.declared.Progress.{Progress}
 use Rattle.replay_log.specs.declared.Progress.TheVariants.{Looking, Deciding}
 use Rattle.replay_log.specs.Run.{to_decide}
-use Rattle.replay_log.proofs.to_decide.Statement.{statement}
-use Rattle.replay_log.proofs.to_decide.Tie as tie
+use Rattle.std.proofs.Common.{rules}
+use Rattle.replay_log.proofs.to_decide.Goals as goal
 
 by-test : (left : ℕ) (b : Bool) → eqb left 0 ≡ b → elim b as (λ x. Progress) [ true ↦ Deciding | false ↦ Looking ] ≡ to_decide left
 unfolding to_decide
 by-test left b e = sym (ap (λ (t : Bool). elim t as (λ x. Progress) [ true ↦ Deciding | false ↦ Looking ]) e)
 
-returns : tie.Need-returns
-returns c = by-test _ true (eq-eqb _ 0 c.if1.true)
+pub returns-then-left-eq0 : goal.returns-then-left-eq0
+returns-then-left-eq0 c = by-test _ true (eq-eqb _ 0 c.if-left-eq0.true)
 
-returns-2 : tie.Need-returns-2
-returns-2 c = by-test _ false (ne_eqb _ 0 c.if1.false)
-
-pub to-decide-spec : {M : Type 1} → statement M
-to-decide-spec = tie.close (tie.spec returns returns-2)
+pub returns-else-left-eq0 : goal.returns-else-left-eq0
+returns-else-left-eq0 c = by-test _ false (ne_eqb _ 0 c.if-left-eq0.false)
