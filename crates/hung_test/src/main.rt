@@ -2,6 +2,7 @@
 // file `stdin` is the log, `data` has the machine's record, and `stdout` is what document 01, with
 // the reply limit, answers. A program of a gate's run has one log; the replay program's own is
 // Tuesday's.
+#![tactic(auto)]
 use libc::{STDIN_FILENO, STDOUT_FILENO};
 use test_support::text;
 

@@ -5,6 +5,7 @@
 // A block of the script is a log: a line `boot`, `counter` or `times` and what follows it up to the next. The
 // log is run by the loop over a log, by the entry for the shim, and in pieces (logs.rt); where one
 // of them gives another answer, a line says so and counts as wrong.
+#![tactic(auto)]
 mod logs;
 mod show;
 

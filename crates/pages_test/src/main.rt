@@ -17,6 +17,7 @@
 //
 // Until the first `boot` there is no started machine. The numbers of a question are decimal, or
 // after 0x hexadecimal. A question that cannot be read is an error, and counts as wrong.
+#![tactic(auto)]
 mod questions;
 mod show;
 

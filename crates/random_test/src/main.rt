@@ -6,6 +6,7 @@
 // The file `stdin` has the records, the lines that are thrown and the numbers in them (lines_made.rt).
 // The counts in `stdout` are not worked out from document 01: they show that a run is the last one
 // again. `0 broken claims` and no `WRONG` are the test.
+#![tactic(auto)]
 mod claims;
 mod counts;
 mod dice;

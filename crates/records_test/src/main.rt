@@ -6,6 +6,7 @@
 // A line of the table is `READER LABEL: WORDS > CODE`. The reader is `system` or `cell`; the words
 // (test_support, words.rt) change the record that was last kept for it by the word `=`, and a system
 // with the word `!` is the one in which later cells are read. Another line is a remark.
+#![tactic(auto)]
 use test_support::cases::Tally;
 use test_support::records::Record;
 use test_support::{cases, records, text, words};

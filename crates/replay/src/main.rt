@@ -3,6 +3,7 @@
 //
 // Everything that is answered comes from the libraries; here bytes are only read and written. What
 // cannot be read or written is said on standard error, and nowhere else.
+#![tactic(auto)]
 ghost use Rattle.std.specs.Prelude.{◌≤◌, length};
 
 use libc::{STDIN_FILENO, STDOUT_FILENO};
