@@ -13,7 +13,7 @@ use machine_state::{
 };
 
 // The effect that comes: none, or that of a call on its target.
-#[derive(Drop)]
+#[derive(Clone, Copy)]
 pub enum Effect {
     NoEffect,
     Comes(CallKind, usize),
@@ -21,7 +21,7 @@ pub enum Effect {
 
 // What a call or a poll does: its answer, the effect that comes, then what is done to the words of
 // one cell, and the call that waits then.
-#[derive(Drop)]
+#[derive(Clone, Copy)]
 pub struct Move {
     pub answer: Answer,
     pub effect: Effect,

@@ -11,7 +11,7 @@ use region_table::MAX_REGIONS;
 use regions::MemRegion;
 
 // The values of a cell record. The reply limit is in polls, 0 for none.
-#[derive(Drop)]
+#[derive(Clone, Copy)]
 pub struct CellConfig {
     pub name: [u8; 32],
     pub passive: bool,
@@ -22,7 +22,7 @@ pub struct CellConfig {
 }
 
 // The answer that the record alone gives, and the values as they stand in it.
-#[derive(Drop)]
+#[derive(Clone, Copy)]
 pub struct CellRead {
     pub code: i32,
     pub config: CellConfig,

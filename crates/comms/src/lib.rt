@@ -13,7 +13,7 @@ ghost use Rattle.comms.specs.Sets.{has_locked, add_where, sets_without};
 use machine_state::{CommRegion, FAILED, MAX_CELLS, REQUEST_APPROVED, RUNNING_LOCKED, SHUT_DOWN};
 
 // What is done to the words of a cell: nothing, a store to word 0, 1 or 2, or a message.
-#[derive(Drop)]
+#[derive(Clone, Copy)]
 pub enum WordsChange {
     Keep,
     Store(u64, u32),
@@ -21,7 +21,7 @@ pub enum WordsChange {
 }
 
 // The cells that a search looks at.
-#[derive(Drop)]
+#[derive(Clone, Copy)]
 pub enum Whom {
     Everyone,
     Nobody,
@@ -30,7 +30,7 @@ pub enum Whom {
 }
 
 // The IDs of the cells that may be messaged, and of those that have locked the configuration.
-#[derive(Drop)]
+#[derive(Clone, Copy)]
 pub struct CellSets {
     pub messageable: u16,
     pub locked: u16,

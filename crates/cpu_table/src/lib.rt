@@ -9,7 +9,7 @@ use machine_state::{Cpu, MAX_CPUS};
 
 // What is done to a CPU: nothing, an exit counted with its own counter, marked failed, started,
 // stopped, or given to a cell, fresh, stopped or running.
-#[derive(Drop)]
+#[derive(Clone, Copy)]
 pub enum CpuChange {
     Keep,
     Count(usize),

@@ -20,7 +20,7 @@ use unobeyed::Admission;
 
 // What is to be done: to one CPU, then to the cell that its reply limit cuts off, `MAX_CELLS` for none,
 // and then the move.
-#[derive(Drop)]
+#[derive(Clone, Copy)]
 pub struct Decision {
     pub cpu: usize,
     pub touch: CpuChange,

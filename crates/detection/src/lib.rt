@@ -3,7 +3,7 @@ ghost use Rattle.std.specs.Prelude.{◌≡◌};
 ghost use Rattle.detection.specs.Detection.{cpuid as cpuid_of};
 
 // The four registers that an execution of cpuid leaves.
-#[derive(Drop)]
+#[derive(Clone, Copy)]
 pub struct Leaf {
     pub eax: u32,
     pub ebx: u32,

@@ -13,7 +13,7 @@ use machine_state::{
 };
 
 // What a record says that Create's effect needs beside the cell itself.
-#[derive(Drop)]
+#[derive(Clone, Copy)]
 pub struct Figures {
     pub cpus: u64,
     pub region_count: usize,
@@ -23,14 +23,14 @@ pub struct Figures {
 }
 
 // What a cell that an effect is about holds; a number that is no cell's holds nothing.
-#[derive(Drop)]
+#[derive(Clone, Copy)]
 struct Target {
     cpus: u64,
     region_count: usize,
 }
 
 // What an effect makes of the machine's numbers, and what it does to a set of CPUs.
-#[derive(Drop)]
+#[derive(Clone, Copy)]
 pub struct Numbers {
     pub pool_used: u32,
     pub live_ids: u16,
@@ -41,7 +41,7 @@ pub struct Numbers {
 
 // What an effect does to its cell's place in the table: nothing, the record's new cell, another
 // phase, or no cell.
-#[derive(Drop)]
+#[derive(Clone, Copy)]
 pub enum CellChange {
     Keep,
     New,
@@ -51,7 +51,7 @@ pub enum CellChange {
 
 // What is applied next of a decision: a CPU of a set that is being changed, a cell that is cut off, a
 // change of one cell, the machine switched off, or nothing more.
-#[derive(Drop)]
+#[derive(Clone, Copy)]
 pub enum Part {
     Cpu(usize),
     CutOff(usize),

@@ -22,14 +22,14 @@ pub const MAX_LINE: usize = 4400;
 pub const MAX_RECORD: usize = MAX_LINE / 2;
 
 // A line that is read: its event, and how many bytes of a record it brings.
-#[derive(Drop)]
+#[derive(Clone, Copy)]
 pub struct Line {
     pub event: Event,
     pub len: usize,
 }
 
 // An event of three words, and whether the third is the HEX of a `create` line.
-#[derive(Drop)]
+#[derive(Clone, Copy)]
 struct ThreeWords {
     event: Event,
     create: bool,
@@ -37,7 +37,7 @@ struct ThreeWords {
 
 // A line cut into words: its event, and where the HEX of a `create` line begins and ends; both are
 // 0 in any other.
-#[derive(Drop)]
+#[derive(Clone, Copy)]
 struct Cut {
     event: Event,
     hex: usize,

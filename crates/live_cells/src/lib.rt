@@ -61,7 +61,7 @@ pub fn has_name(c: Cell, record: &[u8]) -> bool
 
 // What a look at live cells finds: whether one has the record's name, and whether one has a region in
 // conflict with the record's.
-#[derive(Drop)]
+#[derive(Clone, Copy)]
 pub struct Found {
     pub named: bool,
     pub held: bool,

@@ -5,7 +5,7 @@ use machine_state::Machine;
 use test_support::{cases, names, text};
 
 // A machine, and how many bytes of answers were written.
-#[derive(Drop)]
+#[derive(Clone, Copy)]
 pub struct Made {
     pub machine: Machine,
     pub n: usize,

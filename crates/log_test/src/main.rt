@@ -14,7 +14,7 @@ use test_support::cases::Tally;
 use test_support::{cases, text};
 
 // How far a script has come: the machine that the last block left, the cases, and the next block.
-#[derive(Drop)]
+#[derive(Clone, Copy)]
 struct Progress {
     machine: Machine,
     tally: Tally,

@@ -84,7 +84,7 @@ fn show_line(t: Tally, script: &[u8], line: &[u8], head: &[u8], answer: &[u8]) -
 }
 
 // How far a block has been shown: the place in it, and in the answers to its log.
-#[derive(Drop)]
+#[derive(Clone, Copy)]
 struct Shown {
     tally: Tally,
     at: usize,

@@ -14,7 +14,7 @@ pub const MAX_CPUS: usize = 64;
 
 // A CPU: the cell that owns it, its stopped and failed marks, and its exit counters: the total,
 // MMIO, PIO, IPI, management, calls.
-#[derive(Drop)]
+#[derive(Clone, Copy)]
 pub struct Cpu {
     pub cell: usize,
     pub stopped: bool,
@@ -25,7 +25,7 @@ pub struct Cpu {
 // The communication words of a cell: the message to it, its reply, its state; whether it has a
 // communication region at all, whether it is passive, so that it is never messaged, and how many
 // polls it may leave a message unanswered, 0 for any number.
-#[derive(Drop)]
+#[derive(Clone, Copy)]
 pub struct CommRegion {
     pub mapped: bool,
     pub passive: bool,
@@ -71,7 +71,7 @@ pub const CELL_GET_STATE: u32 = 6;
 
 pub const CPU_GET_INFO: u32 = 7;
 
-#[derive(Drop)]
+#[derive(Clone, Copy)]
 pub enum Phase {
     Suspended,
     Loading,
@@ -79,7 +79,7 @@ pub enum Phase {
 }
 
 // A cell of the table: its phase and what its record says.
-#[derive(Drop)]
+#[derive(Clone, Copy)]
 pub struct Cell {
     pub phase: Phase,
     pub name: [u8; 32],
@@ -89,7 +89,7 @@ pub struct Cell {
 }
 
 // The calls that may wait for cells.
-#[derive(Drop)]
+#[derive(Clone, Copy)]
 pub enum CallKind {
     Disable,
     Create,
@@ -101,7 +101,7 @@ pub enum CallKind {
 // How far a waiting call has come: its target (of Create the new cell), the cell that it waits for,
 // whether it asks or, its effect done, tells; and how many polls since the message have found
 // nothing, counted where that cell has a reply limit.
-#[derive(Drop)]
+#[derive(Clone, Copy)]
 pub struct Stage {
     pub target: usize,
     pub cell: usize,
@@ -109,14 +109,14 @@ pub struct Stage {
     pub polls: u16,
 }
 
-#[derive(Drop)]
+#[derive(Clone, Copy)]
 pub enum Waiting {
     NoCall,
     Pending(CallKind, Stage),
 }
 
 // Not booted yet, on, or disabled again.
-#[derive(Drop)]
+#[derive(Clone, Copy)]
 pub enum Power {
     Unbooted,
     On,
@@ -126,7 +126,7 @@ pub enum Power {
 // `system` is the record of the start, `pool_used` counts the pool pages in use, `live_ids` is the
 // set of the live cells' IDs, root's 0 included, and `root_cpus` the CPUs of the root cell. Place 0
 // of `cells` and `comms` stays empty.
-#[derive(Drop)]
+#[derive(Clone, Copy)]
 pub struct Machine {
     pub power: Power,
     pub system: SystemConfig,
@@ -141,7 +141,7 @@ pub struct Machine {
 
 // What a CPU does, or the shim's poll, or a line of a log that says none of these. A call with
 // code 1 comes with the bytes of its record beside it.
-#[derive(Drop)]
+#[derive(Clone, Copy)]
 pub enum Event {
     Call(u64, u32, u64, u64),
     Store(u64, u64, u32),
@@ -153,7 +153,7 @@ pub enum Event {
 
 // The answer to an event: a call's return code, the cell that a call waits for, `done`, or why the
 // event was not obeyed.
-#[derive(Drop)]
+#[derive(Clone, Copy)]
 pub enum Answer {
     Code(i32),
     Wait(usize),
@@ -167,29 +167,29 @@ pub enum Answer {
 }
 
 // Boot's answer and the machine after it.
-#[derive(Drop)]
+#[derive(Clone, Copy)]
 pub struct Booted {
     pub code: i32,
     pub machine: Machine,
 }
 
 // An answer and the machine after it.
-#[derive(Drop)]
+#[derive(Clone, Copy)]
 pub struct Stepped {
     pub answer: Answer,
     pub machine: Machine,
 }
 
 // The number of a page of physical memory.
-#[derive(Drop)]
+#[derive(Clone, Copy)]
 pub struct PhysPage(pub u64);
 
 // The number of a page as a cell sees its memory.
-#[derive(Drop)]
+#[derive(Clone, Copy)]
 pub struct CellPage(pub u64);
 
 // What a cell may do with a page.
-#[derive(Drop)]
+#[derive(Clone, Copy)]
 pub struct Access {
     pub read: bool,
     pub write: bool,
@@ -197,7 +197,7 @@ pub struct Access {
 }
 
 // Who owns a physical page.
-#[derive(Drop)]
+#[derive(Clone, Copy)]
 pub enum Owner {
     Hypervisor,
     Cell(usize),
@@ -207,7 +207,7 @@ pub enum Owner {
 }
 
 // What a page of a cell is mapped to.
-#[derive(Drop)]
+#[derive(Clone, Copy)]
 pub enum Mapping {
     Page(PhysPage, Access),
     Comm,
@@ -215,13 +215,13 @@ pub enum Mapping {
 }
 
 // A word or a byte of a communication region; none past its end and where the cell has no region.
-#[derive(Drop)]
+#[derive(Clone, Copy)]
 pub enum RegionWord {
     NoWord,
     Word(u32),
 }
 
-#[derive(Drop)]
+#[derive(Clone, Copy)]
 pub enum RegionByte {
     NoByte,
     Byte(u8),

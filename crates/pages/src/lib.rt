@@ -12,7 +12,7 @@ use regions::MemRegion;
 
 // What the regions of a table are to a physical page: whether one has it, and one that is neither
 // shared nor comm, a shared one, a loadable one, one that is not comm.
-#[derive(Drop)]
+#[derive(Clone, Copy)]
 struct Sight {
     own: bool,
     shared: bool,
@@ -22,7 +22,7 @@ struct Sight {
 
 // Who has a physical page: the first live cell that owns it, or 16; whether a live cell shares it,
 // and whether it may be loaded for one.
-#[derive(Drop)]
+#[derive(Clone, Copy)]
 struct Holders {
     owner: usize,
     shared: bool,

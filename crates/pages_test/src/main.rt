@@ -26,7 +26,7 @@ use test_support::cases::Tally;
 use test_support::{cases, expand, names, text};
 
 // How far a script has come.
-#[derive(Drop)]
+#[derive(Clone, Copy)]
 struct Progress {
     machine: Machine,
     tally: Tally,
@@ -79,7 +79,7 @@ fn next_line(p: Progress, script: &[u8]) -> Progress {
 }
 
 // What a line leaves.
-#[derive(Drop)]
+#[derive(Clone, Copy)]
 struct Done {
     machine: Machine,
     tally: Tally,

@@ -18,7 +18,7 @@ fn is_last_poll(limit: u16, polls: u16) -> bool
 }
 
 // What a poll does: the cell that its limit cuts off, `MAX_CELLS` for none, and then the move.
-#[derive(Drop)]
+#[derive(Clone, Copy)]
 pub struct Polled {
     pub cut: usize,
     pub moves: Move,

@@ -13,7 +13,7 @@ use test_support::{expand, names, records, text};
 pub(crate) const LOG: usize = MAX_LINE + 1;
 
 // A text that has been written: its length, and the dice after it.
-#[derive(Drop)]
+#[derive(Clone, Copy)]
 pub struct Made {
     pub dice: u64,
     pub n: usize,

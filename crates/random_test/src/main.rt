@@ -26,7 +26,7 @@ const EVENTS: u64 = 200;
 const EVENTS_OFF: u64 = 8;
 
 // The dice, and how many claims were broken.
-#[derive(Drop)]
+#[derive(Clone, Copy)]
 struct Totals {
     dice: u64,
     broken: u64,
@@ -34,7 +34,7 @@ struct Totals {
 
 // A machine that meets events: beside these, the kind of the last answer, and how many events met the
 // machine while it was off.
-#[derive(Drop)]
+#[derive(Clone, Copy)]
 struct Going {
     machine: Machine,
     dice: u64,

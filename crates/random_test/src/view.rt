@@ -8,7 +8,7 @@ use regions::MemRegion;
 
 // Two numbers that stand for a machine: for all that an event may change but the exit counters, and
 // for these.
-#[derive(Drop)]
+#[derive(Clone, Copy)]
 pub struct Print {
     pub state: u64,
     pub counters: u64,

@@ -12,7 +12,7 @@ use test_support::{cases, records, text, words};
 
 // What a line leaves for the next: the records that system and cell lines start from, the system
 // that cells are read in, and the cases so far.
-#[derive(Drop)]
+#[derive(Clone, Copy)]
 struct Kept {
     system: Record,
     cell: Record,

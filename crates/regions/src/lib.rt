@@ -22,7 +22,7 @@ pub const PAGE_SIZE: u64 = 4096;
 
 // A memory region of the root cell or of a cell: `size` bytes of physical memory from `phys`, seen
 // by the cell from `virt` on.
-#[derive(Drop)]
+#[derive(Clone, Copy)]
 pub struct MemRegion {
     pub phys: u64,
     pub virt: u64,

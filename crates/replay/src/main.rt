@@ -9,7 +9,7 @@ use libc::{STDIN_FILENO, STDOUT_FILENO};
 use replay_log::Replay;
 
 // A replay, and whether it goes on.
-#[derive(Drop)]
+#[derive(Clone, Copy)]
 struct Went {
     replay: Replay,
     on: bool,

@@ -20,7 +20,7 @@ use texts::MAX_TEXT;
 pub const KEPT: usize = MAX_LINE + 1;
 
 // What a run keeps between two pieces of a log: the machine, and the first `len` bytes of `line`.
-#[derive(Drop)]
+#[derive(Clone, Copy)]
 pub struct Replay {
     pub machine: Machine,
     pub line: [u8; KEPT],
@@ -28,7 +28,7 @@ pub struct Replay {
 }
 
 // A run after a piece: how much of the piece was taken, and how much of the output written.
-#[derive(Drop)]
+#[derive(Clone, Copy)]
 pub struct Ran {
     pub replay: Replay,
     pub taken: usize,
@@ -94,7 +94,7 @@ pub fn start(machine: Machine) -> Replay
 
 // How far the last line has come: it has no line feed yet; cells are looked at for it; it is to be
 // decided; what was decided is being applied; a cell that it changes is to be stored.
-#[derive(Drop)]
+#[derive(Clone, Copy)]
 enum Progress {
     Reading,
     Looking,

@@ -10,21 +10,21 @@ use region_table::MAX_BOOT_REGIONS;
 use regions::MemRegion;
 
 // A range of physical memory.
-#[derive(Drop)]
+#[derive(Clone, Copy)]
 pub struct Range {
     pub start: u64,
     pub size: u64,
 }
 
 // A pool of hypervisor pages: how many there are, and how many are used.
-#[derive(Drop)]
+#[derive(Clone, Copy)]
 pub struct Pool {
     pub pages: u32,
     pub used: u32,
 }
 
 // The values of a system record.
-#[derive(Drop)]
+#[derive(Clone, Copy)]
 pub struct SystemConfig {
     pub name: [u8; 32],
     pub cpus: u64,
@@ -38,7 +38,7 @@ pub struct SystemConfig {
 }
 
 // Boot's answer, and the values as they stand in the record.
-#[derive(Drop)]
+#[derive(Clone, Copy)]
 pub struct SystemRead {
     pub code: i32,
     pub config: SystemConfig,

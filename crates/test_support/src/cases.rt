@@ -3,7 +3,7 @@
 use crate::{names, text};
 
 // How many cases there were, and how many of them were wrong.
-#[derive(Drop)]
+#[derive(Clone, Copy)]
 pub struct Tally {
     pub cases: u64,
     pub wrong: u64,

@@ -4,7 +4,7 @@ use crate::records::Record;
 use crate::{names, text};
 
 // How far a line has been read, how many bytes have been written, and whether all could be read.
-#[derive(Drop)]
+#[derive(Clone, Copy)]
 pub struct Expanded {
     pub at: usize,
     pub n: usize,

@@ -5,7 +5,7 @@ use crate::records::Record;
 use crate::{records, text, words};
 
 // A record, and whether the script has it and its words could be read.
-#[derive(Drop)]
+#[derive(Clone, Copy)]
 pub struct Named {
     pub ok: bool,
     pub record: Record,

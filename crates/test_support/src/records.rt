@@ -6,7 +6,7 @@ use region_table::MAX_REGIONS;
 pub const ROOM: usize = 152 + 32 * MAX_REGIONS;
 
 // A record under test: the first `n` of its bytes.
-#[derive(Drop)]
+#[derive(Clone, Copy)]
 pub struct Record {
     pub b: [u8; ROOM],
     pub n: usize,

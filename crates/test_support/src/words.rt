@@ -16,7 +16,7 @@ use crate::text::Number;
 use crate::{records, text};
 
 // What the words so far have made, and the place where the next number or text goes.
-#[derive(Drop)]
+#[derive(Clone, Copy)]
 pub struct Words {
     pub record: Record,
     pub keep: bool,

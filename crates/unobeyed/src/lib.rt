@@ -8,7 +8,7 @@ ghost use Rattle.unobeyed.specs.Admission.{cpu_for, asked_for, waited_cell, cell
 use machine_state::{Answer, CommRegion, Cpu, Event, MAX_CELLS, Power, Waiting};
 
 // What a table of refusals says: none of its rows applies, or the answer of the first that does.
-#[derive(Drop)]
+#[derive(Clone, Copy)]
 pub enum Admission {
     Admitted,
     Refused(Answer),
