@@ -9,8 +9,10 @@ use test_support::{streams, text};
 
 fn main(rt: HostRuntime) {
     let mut record = [0u8; 4096];
-    let n = match fs::open(&rt, "system.tss") {
-        Ok(mut file) => streams::read_full(&mut file, &mut record),
+    // The file stays open while the log is read.
+    let mut opened = fs::open(&rt, "system.tss");
+    let n = match &mut opened {
+        Ok(file) => streams::read_full(file, &mut record),
         Err(_) => 0,
     };
     let booted = machine_state::boot(text::first(&record, n));

@@ -2,7 +2,8 @@
 // is then another than the one that is wanted.
 ghost use Rattle.std.specs.Prelude.{◌≡◌, ◌≤◌, length};
 
-use std::io::Read;
+use crate::text;
+use std::io::{Cursor, Read, Write};
 
 // Room for a script: 65,536 zeros. The clause gives only the length, which lending the array as a
 // slice needs.
@@ -26,12 +27,23 @@ pub fn read_full<R: Read>(from: &mut R, bytes: &mut [u8]) -> usize
     done
 }
 
-// Prints bytes, as far as they can be written.
+// Prints bytes, up to the first write that takes nothing or fails. A call that a signal interrupts
+// before it moves a byte counts as one that failed.
 pub fn write_all(rt: &impl Print, bytes: &[u8]) {
-    let _ = rt.write_all(bytes);
+    let mut done = 0;
+    while done < bytes.len() {
+        match rt.write_some(&bytes[done..]) {
+            Ok(0) | Err(_) => return,
+            Ok(n) => done += n,
+        }
+    }
 }
 
 // Prints a number in decimals.
 pub fn print_decimal(rt: &impl Print, n: u64) {
-    let _ = print!(rt; "{n}");
+    let mut digits = [0u8; 20];
+    let mut cursor = Cursor::new(&mut digits[..]);
+    let _ = write!(cursor, "{n}");
+    let k = cursor.position() as usize;
+    write_all(rt, text::first(&digits, k));
 }
