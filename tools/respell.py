@@ -18,6 +18,8 @@ import sys
 
 # Names that would fall together with another one in the same scope: (file, old) -> new, before all else.
 APART = {
+    "crates/apply/src/lib.rt": {"effect_of": "call_effect"},
+    "crates/regions/src/lib.rt": {"Apart-of": "apart_of"},
     "crates/cell_rules/proofs/cell_valid/Proof.antt": {"is_name": "is_named"},
     "crates/system_record/proofs/system_valid/Proof.antt": {"is_name": "is_named"},
     "crates/reached/proofs/Runs.antt": {"no_cell": "no_cell_lem"},
@@ -79,9 +81,10 @@ def main():
     for path in specs + proofs + rust + edits:
         text = old = open(path, encoding="utf-8").read()
         if path in APART:
-            # not below a dot: there the name is a function's
+            # not below a dot, where the name is a function's, but for the fields of Sharp's own record
+            dot = "" if path.endswith("/Sharp.antt") else "."
             text = re.sub(
-                r"(?<![.A-Za-z0-9_'\-])(%s)(?![A-Za-z0-9_'\-])" % "|".join(APART[path]),
+                r"(?<![%sA-Za-z0-9_'\-])(%s)(?![A-Za-z0-9_'\-])" % (dot, "|".join(APART[path])),
                 lambda m: APART[path][m.group(1)],
                 text,
             )

@@ -3,7 +3,7 @@
 ghost use Rattle.std.specs.Prelude.{◌≡◌, false, List, ◌∷◌, ℕ};
 ghost use Rattle.cell_record.specs.CellRecord.{cell_of};
 ghost use Rattle.rules.specs.State.{with_power, with_waiting};
-ghost use Rattle.rules.specs.Effects.{effect as effect_of, all_destroyed, disabled};
+ghost use Rattle.rules.specs.Effects.{effect as call_effect, all_destroyed, disabled};
 ghost use Rattle.asking.specs.Moves.{effect_of, cut_off_at};
 ghost use Rattle.effects.specs.Parts.{is_disable, changed_cell};
 
@@ -39,7 +39,7 @@ fn cell_after(change: CellChange, record: &[u8], c: Cell) -> Cell
 
 // The machine after the effect of a call on one cell.
 fn on_cell(mut m: Machine, kind: CallKind, id: usize, record: &[u8]) -> Machine
-    ensures { is_disable kind ≡ false → result ≡ effect_of kind id (cell_of «record».now) m }
+    ensures { is_disable kind ≡ false → result ≡ call_effect kind id (cell_of «record».now) m }
 {
     let cpus = m.cpus;
     let i = comms::cell_index(id);

@@ -1,7 +1,7 @@
 // Memory regions: reading one from its 32 bytes, and the rules on one and on two.
 ghost use Rattle.std.specs.Prelude.{◌≡◌, ◌+◌, ◌^◌, leb};
 ghost use Rattle.regions.specs.Regions.{region_of, whole_pages, placed, executable, comm, loadable, shared, shared_and_executable, flags_ok, comm_ok};
-ghost use Rattle.regions.specs.Regions.{overlap as overlap_of, inside as inside_of, apart as Apart-of, clear_of, inside_phys};
+ghost use Rattle.regions.specs.Regions.{overlap as overlap_of, inside as inside_of, apart as apart_of, clear_of, inside_phys};
 
 // The flags of a region, by their values, and those of a communication region, read, write and comm.
 pub const MEM_READ: u64 = 1;
@@ -149,7 +149,7 @@ pub fn inside(a: u64, n: u64, b: u64, m: u64) -> bool
 
 // Whether two regions may stand in one record.
 pub fn apart(r: MemRegion, s: MemRegion) -> bool
-    ensures { result ≡ Apart-of r s }
+    ensures { result ≡ apart_of r s }
 {
     let virt = overlap(r.virt, r.size, s.virt, s.size);
     let phys = overlap(r.phys, r.size, s.phys, s.size);

@@ -260,7 +260,7 @@ changes-back = no_move changes_back both_started disable (from 1) consent runs.b
 
 -- telling before the effect
 pub tells_first_lem : Demand3 tells_first → ⊥
-tells_first_lem = no_move tells_first both_started destroy live consent runs.tells_first
+tells_first_lem = no_move tells_first both_started destroy live consent runs.tells_first_lem
 
 -- a limit that never cuts off
 pub never-cuts-off : Demand3 never_cuts_off → ⊥

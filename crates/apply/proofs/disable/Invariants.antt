@@ -1,0 +1,17 @@
+-- `apply::disable` meets its contract: the loop's invariant: destroying the cells from i up makes of the machine what destroying all makes of the first. Assumes nothing.
+use mathlib.Core.Path.{◌≡◌, refl, sym, ap, ◌∙◌}
+use native.Mathlib.Numerals.{add-one-le}
+use Prim.Native.Nat.{◌-◌, ◌≤◌}
+use Rattle.base.specs.Lists.{from}
+use Rattle.machine_state.specs.declared.Power.TheVariants.{Disabled}
+use Rattle.rules.specs.State.{with_power, cell_ids}
+use Rattle.rules.specs.Effects.{all_destroyed, disabled}
+use Rattle.apply.proofs.Laws.{destroy-turn, destroy-end}
+use Rattle.std.proofs.Common.{rules}
+use Rattle.apply.proofs.disable.Given as goal
+
+abbrev pub invariant-loop-i : goal.invariant-loop-i
+invariant-loop-i l = (l.i ≤ 16) × (all_destroyed (from l.i (16 - l.i)) l.m ≡ all_destroyed cell_ids l.initial.m)
+
+abbrev pub decreases-loop-i : goal.decreases-loop-i
+decreases-loop-i l = 16 - l.i

@@ -1,0 +1,21 @@
+-- `cpu_table::all_failed` meets its contract. The loop's invariant: the flag says whether every CPU passed that is in the set
+-- is failed in the table where `also` is. Assumes nothing.
+use Rattle.std.proofs.Common.{◌≡◌, ℕ, ◌-◌, ◌≤◌, Bool, not, ◌||◌, List, set, ap, ◌∙◌, ap₂, arith, rules}
+use Rattle.base.specs.Lists.{all, up_to}
+use Rattle.base.proofs.Lists.{all-up_to-turn, all-up_to-none}
+use Rattle.cpu_set.specs.CpuSet.{member}
+use Rattle.machine_state.specs.declared.Cpu.{Cpu}
+use Rattle.machine_state.specs.Machine.{cpu_in}
+use Rattle.rules.specs.Effects.{fail_cpu, all_failed}
+use Rattle.cpu_table.proofs.Laws.{failed-at}
+use Rattle.std.proofs.Common.{rules}
+use Rattle.cpu_table.proofs.all_failed.Given as goal
+
+abbrev pub done : ℕ → ℕ → List Cpu → ℕ → Bool
+done s also cpus k = not (member k s) || (cpu_in (set cpus also (fail_cpu (cpu_in cpus also))) k).failed
+
+abbrev pub invariant-loop-i : goal.invariant-loop-i
+invariant-loop-i l = (l.i ≤ 64) × (l.ok ≡ all (done l.set l.also l.cpus) (up_to l.i))
+
+abbrev pub decreases-loop-i : goal.decreases-loop-i
+decreases-loop-i l = 64 - l.i

@@ -1,0 +1,17 @@
+-- `fields::name_of` meets its contract. The loop's invariant: the bytes passed are copied. At the end the 32 bytes agree at each place.
+-- Assumes nothing.
+use mathlib.Core.Path.{◌≡◌, refl, ◌∙◌}
+use Prim.Native.Nat.{ℕ, ◌≤◌, ◌<◌, ◌-◌}
+use native.Mathlib.Omega.{arith}
+use borrow.Author.Count.{below_none, below_more}
+use lib.ListN.{length, get_or, length-set}
+use lib.Seq.{get_or-set_same, get_or-set_other}
+use Rattle.fields.proofs.Laws.{padded-at}
+use Rattle.std.proofs.Common.{rules}
+use Rattle.fields.proofs.name_of.Given as goal
+
+abbrev pub invariant-loop-i : goal.invariant-loop-i
+invariant-loop-i l = (l.i ≤ 32) × (length l.name ≡ 32) × ((k : ℕ) → k < l.i → get_or l.name k 0 ≡ get_or l.s k 0)
+
+abbrev pub decreases-loop-i : goal.decreases-loop-i
+decreases-loop-i l = 32 - l.i

@@ -1,0 +1,9 @@
+-- `id_set::drop_id` meets its contract: the set operation, kept to 16 bits. Assumes nothing.
+use mathlib.Core.Path.{ap, ◌∙◌}
+use Prim.Native.Nat.{ℕ, ◌%◌, ◌^◌}
+use Rattle.id_set.proofs.Ids.{dropped}
+use Rattle.std.proofs.Common.{rules}
+use Rattle.id_set.proofs.drop_id.Goals as goal
+
+pub returns : goal.returns
+returns c = ap (λ (n : ℕ). n % 2 ^ 16) c.without.ensures ∙ dropped c.args.live_ids c.single.result c.args.id c.single.ensures

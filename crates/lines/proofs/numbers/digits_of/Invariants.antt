@@ -1,0 +1,18 @@
+-- `lines::numbers::digits_of` meets its contract. The loop's invariant: the number read so far, with the digits that are left, is the
+-- whole. Assumes nothing.
+use mathlib.Core.Path.{◌≡◌, refl, ◌∙◌}
+use Prim.Native.Nat.{◌-◌, ◌<◌, ◌^◌}
+use borrow.Author.Tests.{not-true, not-false}
+use lib.ListN.{length, drop}
+use Rattle.lines.specs.Reading.{with_digits}
+use Rattle.lines.proofs.NumberLaws.{digits-stop, digits-turn, digits-end}
+use mathlib.Core.Path.{ap}
+use mathlib.Core.Bool.{not}
+use Rattle.std.proofs.Common.{rules}
+use Rattle.lines.proofs.numbers.digits_of.Given as goal
+
+abbrev pub invariant-loop-i : goal.invariant-loop-i
+invariant-loop-i l = (l.n < 2 ^ 64) × (with_digits l.n (drop l.i l.w) ≡ with_digits 0 l.w)
+
+abbrev pub decreases-loop-i : goal.decreases-loop-i
+decreases-loop-i l = length l.w - l.i

@@ -1,0 +1,23 @@
+-- `live_cells::conflicts_one` meets its contract. The loop's invariant: the flag says whether a region passed is in conflict with s. The array has
+-- as many elements as places, so the loop passes those that the count names. Assumes nothing.
+use mathlib.Core.Path.{◌≡◌, ap, ◌∙◌}
+use mathlib.Core.Bool.{Bool}
+use Prim.Native.Nat.{◌≤◌, ◌-◌}
+use native.Mathlib.Omega.{arith}
+use lib.ListN.{length, take}
+use Rattle.base.specs.Lists.{any}
+use Rattle.base.proofs.Lists.{any_none, any-turn, take-used}
+use Rattle.regions.specs.declared.MemRegion.{MemRegion}
+use Rattle.region_table.specs.Tables.{max_regions}
+use Rattle.rules.specs.Create.{conflict}
+use Rattle.std.proofs.Common.{rules}
+use Rattle.live_cells.proofs.conflicts_one.Given as goal
+
+abbrev pub meeting : MemRegion → MemRegion → Bool
+meeting s r = conflict r s
+
+abbrev pub invariant-loop-i : goal.invariant-loop-i
+invariant-loop-i l = (l.i ≤ l.n) × (l.found ≡ any (meeting l.s) (take l.i l.table))
+
+abbrev pub decreases-loop-i : goal.decreases-loop-i
+decreases-loop-i l = l.n - l.i

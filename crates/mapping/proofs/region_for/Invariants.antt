@@ -1,0 +1,15 @@
+-- `mapping::region_for` meets its contract. The loop's invariant: the region wanted is the first one that has the page among those not
+-- passed. Assumes nothing.
+use mathlib.Core.Path.{◌≡◌, refl, sym, ◌∙◌}
+use Prim.Native.Nat.{◌≤◌, ◌-◌}
+use lib.ListN.{take, drop}
+use Rattle.rules.specs.Pages.{region_for}
+use Rattle.mapping.proofs.Laws.{region-here, region-next, region-none}
+use Rattle.std.proofs.Common.{rules}
+use Rattle.mapping.proofs.region_for.Given as goal
+
+abbrev pub invariant-loop-i : goal.invariant-loop-i
+invariant-loop-i l = (l.i ≤ l.n) × (region_for l.page (take l.count l.table) ≡ region_for l.page (drop l.i (take l.count l.table)))
+
+abbrev pub decreases-loop-i : goal.decreases-loop-i
+decreases-loop-i l = l.n - l.i

@@ -1,0 +1,22 @@
+-- `pages::some_has` meets its contract. The loop's invariant: the flag says whether a region passed has the page. The array has as many
+-- elements as places, so the loop passes those that the count names. Assumes nothing.
+use mathlib.Core.Path.{◌≡◌, ap, ◌∙◌}
+use Prim.Native.Nat.{◌≤◌, ◌-◌}
+use native.Mathlib.Omega.{arith}
+use lib.ListN.{take}
+use Rattle.base.specs.Lists.{any}
+use Rattle.base.proofs.Lists.{any_none, any-turn, take-used}
+use Rattle.rules.specs.Pages.{has_phys}
+use Rattle.std.proofs.Common.{rules}
+use Rattle.pages.proofs.some_has.Goals as goal
+
+pub loop-i-init : goal.loop-i-init
+loop-i-init c = (search rules, any_none _ c.args.table)
+
+pub loop-i-preserved : goal.loop-i-preserved
+loop-i-preserved c =
+    let size = c.well_formed.0.1.0.1 in
+    (search rules, any-turn _ c.args.table _ _ _ _ c.loop-i.invariant.1 c.has_phys-found.ensures (omega arith))
+
+pub returns : goal.returns
+returns c = c.loop-i.invariant.1 ∙ ap (any _) (take-used c.args.table _ _ _ c.loop-i.i c.well_formed.0.1.0.1 c.used-n.ensures c.loop-i.invariant.0 c.loop-i-test.false)

@@ -1,0 +1,24 @@
+-- `system_record::boot_regions_ok` meets its contract. The loop's invariant: the flag says whether every region passed keeps the rules.
+-- Assumes nothing.
+use mathlib.Core.Path.{◌≡◌, sym, ap, ◌∙◌}
+use mathlib.Core.Bool.{Bool}
+use Prim.Native.Nat.{ℕ, ◌≤◌, ◌-◌}
+use native.Mathlib.Omega.{arith}
+use Rattle.base.specs.Lists.{all}
+use Rattle.regions.specs.declared.MemRegion.{MemRegion}
+use Rattle.region_table.specs.Tables.{region_at, regions_of}
+use Rattle.region_table.proofs.Laws.{all-no-region, all-regions}
+use Rattle.system_record.specs.declared.Range.{Range}
+use Rattle.system_record.specs.SystemRecord.{boot_region_ok}
+use Rattle.system_record.proofs.Laws.{record-regions}
+use Rattle.std.proofs.Common.{rules}
+use Rattle.system_record.proofs.boot_regions_ok.Given as goal
+
+abbrev pub ok-beside : Range → MemRegion → Bool
+ok-beside hypervisor r = boot_region_ok hypervisor.start hypervisor.size r
+
+abbrev pub invariant-loop-i : goal.invariant-loop-i
+invariant-loop-i l = (l.i ≤ l.n) × (l.ok ≡ all (ok-beside l.hypervisor) (regions_of 96 l.i l.s))
+
+abbrev pub decreases-loop-i : goal.decreases-loop-i
+decreases-loop-i l = l.n - l.i
