@@ -1,7 +1,7 @@
 -- `cell_record::has_comm` meets its contract. The loop's invariant: the flag says whether a region passed is a communication region.
 -- Assumes nothing.
 use mathlib.Core.Path.{◌≡◌, sym, ap, ◌∙◌}
-use Prim.Native.Nat.{ℕ, ◌≤◌, ◌-◌}
+use Prim.Native.Nat.{ℕ, ◌-◌}
 use native.Mathlib.Omega.{arith}
 use Rattle.base.specs.Lists.{any}
 use Rattle.regions.specs.declared.MemRegion.{MemRegion}

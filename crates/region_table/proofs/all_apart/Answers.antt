@@ -1,7 +1,7 @@
 -- `region_table::all_apart` meets its contract. The loop's invariant: the flag says whether every two regions passed are apart.
 -- Assumes nothing.
 use mathlib.Core.Path.{◌≡◌, ap, ◌∙◌}
-use Prim.Native.Nat.{ℕ, ◌≤◌, ◌-◌}
+use Prim.Native.Nat.{ℕ, ◌-◌}
 use native.Mathlib.Omega.{arith}
 use Rattle.base.specs.Lists.{all, pairwise}
 use Rattle.regions.specs.declared.MemRegion.{MemRegion}

@@ -1,7 +1,7 @@
 -- `region_table::apart_from` meets its contract. The loop's invariant: the flag says whether every region passed is apart from r.
 -- Assumes nothing.
 use mathlib.Core.Path.{◌≡◌, ap, ◌∙◌}
-use Prim.Native.Nat.{ℕ, ◌≤◌, ◌-◌}
+use Prim.Native.Nat.{ℕ, ◌-◌}
 use native.Mathlib.Omega.{arith}
 use Rattle.base.specs.Lists.{all}
 use Rattle.regions.specs.declared.MemRegion.{MemRegion}

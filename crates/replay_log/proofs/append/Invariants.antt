@@ -1,13 +1,7 @@
 -- `replay_log::append` meets its contract. The loop's invariant: the bytes passed stand behind the line's. Assumes nothing.
-use mathlib.Core.Path.{◌≡◌, sym, ap, ◌∙◌}
-use mathlib.Core.List.{List, ◌++◌}
-use Prim.Native.Nat.{ℕ, ◌≤◌, ◌<◌, ◌-◌, ◌+◌, min}
-use native.Mathlib.Numerals.{add-one}
-use native.Mathlib.Omega.{arith}
-use lib.ListN.{length, take, get_or, set}
-use lib.Seq.{paste, paste-zero, paste-suc, length-paste, take-paste}
-use Rattle.replay_log.proofs.Buffers.{min-fits, appended}
-use Rattle.std.proofs.Common.{rules}
+use mathlib.Core.Path.{◌≡◌}
+use Prim.Native.Nat.{◌≤◌, ◌-◌}
+use lib.Seq.{paste}
 use Rattle.replay_log.proofs.append.Given as goal
 
 abbrev pub invariant-loop-i : goal.invariant-loop-i

@@ -1,5 +1,4 @@
 -- `replay_log::begun` meets its contract: the smaller of two numbers, and an array has as many elements as its type says. Assumes nothing.
-use Rattle.std.proofs.Common.{rules}
 use Rattle.replay_log.proofs.begun.Goals as goal
 
 pub returns : goal.returns

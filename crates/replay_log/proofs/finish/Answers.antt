@@ -1,7 +1,7 @@
 -- `replay_log::finish` meets its contract: where bytes of a line are kept, it is the last line, and a run over its line feed answers it. Assumes nothing.
 use mathlib.Core.Path.{◌≡◌, sym, ap, ◌∙◌, subst}
 use mathlib.Core.List.{List}
-use Prim.Native.Nat.{ℕ, ◌≤◌, ◌<◌, min}
+use Prim.Native.Nat.{ℕ, ◌<◌, min}
 use native.Mathlib.Omega.{arith}
 use lib.ListN.{length, take, length-take}
 use Rattle.texts.specs.Texts.{put_line, put_count}

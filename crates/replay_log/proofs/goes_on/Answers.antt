@@ -2,7 +2,6 @@
 use mathlib.Core.Path.{sym, ap}
 use Rattle.replay_log.specs.declared.Progress.{Progress}
 use Rattle.replay_log.specs.Run.{goes_on}
-use Rattle.std.proofs.Common.{rules}
 use Rattle.replay_log.proofs.goes_on.Goals as goal
 
 pub returns-in-Reading : goal.returns-in-Reading

@@ -1,11 +1,9 @@
 -- `replay_log::line_end` meets its contract. The loop's invariant: the bytes passed and those before the next line feed make the whole
 -- count. Assumes nothing.
-use mathlib.Core.Path.{◌≡◌, refl, sym, ◌∙◌}
+use mathlib.Core.Path.{◌≡◌}
 use Prim.Native.Nat.{◌≤◌, ◌-◌, ◌+◌}
 use lib.ListN.{length, drop}
 use Rattle.replay_log.specs.Feed.{line_length}
-use Rattle.replay_log.proofs.Laws.{length_more, length-stop, length-end}
-use Rattle.std.proofs.Common.{rules}
 use Rattle.replay_log.proofs.line_end.Given as goal
 
 abbrev pub invariant-loop-i : goal.invariant-loop-i

@@ -3,7 +3,6 @@ use mathlib.Core.Path.{refl, ap}
 use Prim.Native.Nat.{ℕ, ◌+◌}
 use lib.ListN.{length}
 use Rattle.replay_log.proofs.Buffers.{sum_fits, put_count_lem, put-inside, put-text, put_rest, put-size}
-use Rattle.std.proofs.Common.{rules}
 use Rattle.replay_log.proofs.put.Goals as goal
 
 pub overflow_add-result : goal.overflow_add-result

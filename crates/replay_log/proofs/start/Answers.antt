@@ -1,7 +1,6 @@
 -- `replay_log::start` meets its contract: of a line no byte is kept. Assumes nothing.
 use mathlib.Core.Path.{refl}
 use Rattle.replay_log.specs.Feed.{going_of}
-use Rattle.std.proofs.Common.{rules}
 use Rattle.replay_log.proofs.start.Goals as goal
 
 pub returns : goal.returns

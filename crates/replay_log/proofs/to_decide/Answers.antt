@@ -7,7 +7,6 @@ use lib.Dec.{eqb}
 use Rattle.replay_log.specs.declared.Progress.{Progress}
 use Rattle.replay_log.specs.declared.Progress.TheVariants.{Looking, Deciding}
 use Rattle.replay_log.specs.Run.{to_decide}
-use Rattle.std.proofs.Common.{rules}
 use Rattle.replay_log.proofs.to_decide.Goals as goal
 
 by-test : (left : ℕ) (b : Bool) → eqb left 0 ≡ b → elim b as (λ x. Progress) [ true ↦ Deciding | false ↦ Looking ] ≡ to_decide left

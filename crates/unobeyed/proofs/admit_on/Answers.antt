@@ -6,7 +6,6 @@ use Rattle.cpu_set.specs.CpuSet.{member}
 use Rattle.rules.specs.Unobeyed.{is_on}
 use mathlib.Core.Path.{ap}
 use mathlib.Core.Bool.{not}
-use Rattle.std.proofs.Common.{rules}
 use Rattle.unobeyed.proofs.admit_on.Goals as goal
 
 pub returns-then-not-is_on : goal.returns-then-not-is_on
