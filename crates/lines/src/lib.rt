@@ -3,6 +3,7 @@
 //
 // Every function that other crates can call takes any bytes of any length.
 #![tactic(auto)]
+
 mod hex;
 mod numbers;
 mod words;

@@ -14,12 +14,11 @@ loop-i-init c = (search rules, refl, filled_none _ _ _ _ c.no_region-table.ensur
 
 pub loop-i-preserved : goal.loop-i-preserved
 unfolding region_at
-loop-i-preserved c =
-    (
-      search rules,
-      length-set c.loop-i.table c.loop-i.i _ ∙ c.loop-i.invariant.1,
-      filled_more _ _ _ c.loop-i.table c.loop-i.invariant.1 c.loop-i.i _ (omega arith) c.region_at.ensures c.loop-i.invariant.2,
-    )
+loop-i-preserved c = (
+  search rules,
+  length-set c.loop-i.table c.loop-i.i _ ∙ c.loop-i.invariant.1,
+  filled_more _ _ _ c.loop-i.table c.loop-i.invariant.1 c.loop-i.i _ (omega arith) c.region_at.ensures c.loop-i.invariant.2,
+)
 
 pub returns : goal.returns
 unfolding cell_of

@@ -16,11 +16,10 @@ pub loop-i-init : goal.loop-i-init
 loop-i-init c = (search rules, any-no-region _ _ _)
 
 pub loop-i-preserved : goal.loop-i-preserved
-loop-i-preserved c =
-    (
-      search rules,
-      any-regions _ _ c.loop-i.i comm _ _ c.loop-i.invariant.1 (c.is_comm-found.ensures ∙ ap (λ (r : MemRegion). comm r) c.region.ensures),
-    )
+loop-i-preserved c = (
+  search rules,
+  any-regions _ _ c.loop-i.i comm _ _ c.loop-i.invariant.1 (c.is_comm-found.ensures ∙ ap (λ (r : MemRegion). comm r) c.region.ensures),
+)
 
 pub returns : goal.returns
 returns c =

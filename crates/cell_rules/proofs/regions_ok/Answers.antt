@@ -15,11 +15,10 @@ pub loop-i-init : goal.loop-i-init
 loop-i-init c = (search rules, all-no-region _ _ _)
 
 pub loop-i-preserved : goal.loop-i-preserved
-loop-i-preserved c =
-    (
-      search rules,
-      all-regions _ _ c.loop-i.i (cell_region_ok c.args.boot) _ _ c.loop-i.invariant.1 (c.cell_region_ok-ok.ensures ∙ ap (cell_region_ok c.args.boot) c.region.ensures),
-    )
+loop-i-preserved c = (
+  search rules,
+  all-regions _ _ c.loop-i.i (cell_region_ok c.args.boot) _ _ c.loop-i.invariant.1 (c.cell_region_ok-ok.ensures ∙ ap (cell_region_ok c.args.boot) c.region.ensures),
+)
 
 pub returns : goal.returns
 returns c =

@@ -19,12 +19,11 @@ pub loop-i-init : goal.loop-i-init
 loop-i-init c = (search rules, any-no-region _ _ _)
 
 pub loop-i-preserved : goal.loop-i-preserved
-loop-i-preserved c =
-    (
-      search rules,
-      any-regions _ _ c.loop-i.i (met_by (take c.args.c.region_count c.args.c.regions)) _ _ c.loop-i.invariant.1
-          (c.conflicts_one-found.ensures ∙ ap (met_by (take c.args.c.region_count c.args.c.regions)) c.region.ensures),
-    )
+loop-i-preserved c = (
+  search rules,
+  any-regions _ _ c.loop-i.i (met_by (take c.args.c.region_count c.args.c.regions)) _ _ c.loop-i.invariant.1
+      (c.conflicts_one-found.ensures ∙ ap (met_by (take c.args.c.region_count c.args.c.regions)) c.region.ensures),
+)
 
 pub returns : goal.returns
 unfolding conflicts

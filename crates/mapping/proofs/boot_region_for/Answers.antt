@@ -16,13 +16,12 @@ returns-then-has_virt c =
     ∙ sym c.loop-i.invariant.1
 
 pub loop-i-preserved : goal.loop-i-preserved
-loop-i-preserved c =
-    (
-      search rules,
-      c.loop-i.invariant.1
-          ∙ region-next c.args.page c.args.table _ _ _ c.well_formed.0.1.0.1 c.used-n.ensures c.loop-i.i _ c.loop-i-test.true
-          (sym c.has_virt.ensures ∙ c.if-has_virt.false),
-    )
+loop-i-preserved c = (
+  search rules,
+  c.loop-i.invariant.1
+      ∙ region-next c.args.page c.args.table _ _ _ c.well_formed.0.1.0.1 c.used-n.ensures c.loop-i.i _ c.loop-i-test.true
+      (sym c.has_virt.ensures ∙ c.if-has_virt.false),
+)
 
 pub returns : goal.returns
 returns c =

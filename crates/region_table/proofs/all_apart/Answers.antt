@@ -16,12 +16,11 @@ loop-i-init c = (search rules, pairwise-no-region _ _ _)
 
 pub loop-i-preserved : goal.loop-i-preserved
 unfolding region_at
-loop-i-preserved c =
-    (
-      search rules,
-      pairwise-regions _ _ c.loop-i.i apart _ _ c.loop-i.invariant.1
-          (c.apart_from-ok.ensures ∙ ap (λ (r : MemRegion). all (λ x. apart x r) (regions_of c.args.base c.loop-i.i c.args.s.now)) c.region_at-r.ensures),
-    )
+loop-i-preserved c = (
+  search rules,
+  pairwise-regions _ _ c.loop-i.i apart _ _ c.loop-i.invariant.1
+      (c.apart_from-ok.ensures ∙ ap (λ (r : MemRegion). all (λ x. apart x r) (regions_of c.args.base c.loop-i.i c.args.s.now)) c.region_at-r.ensures),
+)
 
 pub returns : goal.returns
 returns c =

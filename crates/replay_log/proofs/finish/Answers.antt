@@ -21,8 +21,8 @@ unfolding going_of
 returns-then-begun-eq0 c =
     let none = sym (kept-bytes c.args.kept.line c.args.kept.len c.begun.result c.begun.ensures.size c.begun.ensures.is) ∙ ap (λ (n : ℕ). take n c.args.kept.line) c.if-begun-eq0.true in
     let e =
-        subst (λ (t : List ℕ). (0 ≡ put_count 32 t c.args.out.now) × (c.args.out.now ≡ put_line 32 t c.args.out.now))
-        (sym (end_none c.args.kept.machine (take c.args.kept.len c.args.kept.line) none)) (put-none c.args.out.now) in
+    subst (λ (t : List ℕ). (0 ≡ put_count 32 t c.args.out.now) × (c.args.out.now ≡ put_line 32 t c.args.out.now))
+    (sym (end_none c.args.kept.machine (take c.args.kept.len c.args.kept.line) none)) (put-none c.args.out.now) in
     record { value = e.0; out_after = e.1 }
 
 pub returns-then-out-lt-MAX_TEXT : goal.returns-then-out-lt-MAX_TEXT

@@ -16,11 +16,10 @@ loop-i-init c = (search rules, all-no-region _ _ _)
 
 pub loop-i-preserved : goal.loop-i-preserved
 unfolding region_at
-loop-i-preserved c =
-    (
-      search rules,
-      all-regions _ _ c.loop-i.i (ok-beside c.args.hypervisor) _ _ c.loop-i.invariant.1 (c.boot_region_ok-ok.ensures ∙ ap (ok-beside c.args.hypervisor) c.region_at.ensures),
-    )
+loop-i-preserved c = (
+  search rules,
+  all-regions _ _ c.loop-i.i (ok-beside c.args.hypervisor) _ _ c.loop-i.invariant.1 (c.boot_region_ok-ok.ensures ∙ ap (ok-beside c.args.hypervisor) c.region_at.ensures),
+)
 
 pub returns : goal.returns
 returns c =

@@ -18,12 +18,11 @@ pub hex_digit-low-requires : goal.hex_digit-low-requires
 hex_digit-low-requires c = digit_at c.args.w.now (2 * c.loop-n.n + 1) c.requires (omega arith)
 
 pub loop-n-preserved : goal.loop-n-preserved
-loop-n-preserved c =
-    (
-      omega arith,
-      byte-stored c.args.w.now c.args.out.now c.loop-n.out c.loop-n.n _ _ (omega arith) (omega arith) c.hex_digit-high.ensures.value c.hex_digit-low.ensures.value c.loop-n.invariant.1,
-      length-set c.loop-n.out c.loop-n.n _ ∙ c.loop-n.invariant.2,
-    )
+loop-n-preserved c = (
+  omega arith,
+  byte-stored c.args.w.now c.args.out.now c.loop-n.out c.loop-n.n _ _ (omega arith) (omega arith) c.hex_digit-high.ensures.value c.hex_digit-low.ensures.value c.loop-n.invariant.1,
+  length-set c.loop-n.out c.loop-n.n _ ∙ c.loop-n.invariant.2,
+)
 
 pub shape_of-out : goal.shape_of-out
 shape_of-out c = c.loop-n.invariant.2
