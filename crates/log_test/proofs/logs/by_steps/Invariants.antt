@@ -1,6 +1,5 @@
 -- `log_test::logs::by_steps` is safe and ends. The turns are counted down. Assumes nothing.
 use Prim.Native.Nat.{◌≤◌}
-use Rattle.std.proofs.Common.{rules}
 use Rattle.log_test.proofs.logs.by_steps.Given as goal
 
 abbrev pub invariant-loop-turns : goal.invariant-loop-turns

@@ -1,7 +1,6 @@
 -- `log_test::show::block_at` is safe and ends. The turns are counted down. Assumes nothing.
 use Prim.Native.Nat.{◌≤◌}
 use lib.ListN.{length}
-use Rattle.std.proofs.Common.{rules}
 use Rattle.log_test.proofs.show.block_at.Given as goal
 
 abbrev pub invariant-loop-turns : goal.invariant-loop-turns

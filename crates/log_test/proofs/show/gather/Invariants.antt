@@ -2,7 +2,6 @@
 use mathlib.Core.Path.{◌≡◌}
 use Prim.Native.Nat.{◌≤◌}
 use lib.ListN.{length}
-use Rattle.std.proofs.Common.{rules}
 use Rattle.log_test.proofs.show.gather.Given as goal
 
 abbrev pub invariant-loop-turns : goal.invariant-loop-turns
