@@ -9,7 +9,7 @@ import termios
 import time
 
 ROOT = os.path.dirname(os.path.dirname(os.path.abspath(__file__)))
-REPLAY = os.path.join(ROOT, 'target', 'bin', 'replay')
+REPLAY = os.path.join(ROOT, 'crates', 'replay', 'out', 'replay')
 PACKAGE = os.path.join(ROOT, 'bench', 'yardstick')
 
 

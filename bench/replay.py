@@ -1,7 +1,7 @@
 #!/usr/bin/env python3
 """Times the replay program on generated logs, each beside its malformed twin: a log of the same line lengths in which every line is malformed.
 
-    rt check replay && python3 bench/replay.py [--lines N] [--live N] [--regions N]
+    (cd crates/replay && rt run < /dev/null) && python3 bench/replay.py [--lines N] [--live N] [--regions N]
 
 Every answer to a log and to its twin is compared with what document 01 gives before anything is timed. Prints, from one run on one machine, the
 time of each log as a multiple of its twin's: the least of five runs of each, taken in turn.
@@ -16,7 +16,7 @@ import time
 import logs
 
 ROOT = os.path.dirname(os.path.dirname(os.path.abspath(__file__)))
-REPLAY = os.path.join(ROOT, 'target', 'bin', 'replay')
+REPLAY = os.path.join(ROOT, 'crates', 'replay', 'out', 'replay')
 RUNS = 5
 KINDS = [
     ('queries', logs.queries, 2),

@@ -1,7 +1,7 @@
 #!/usr/bin/env python3
 """Tries the replay program on what cannot be read or written, and checks both outputs.
 
-    rt check replay && python3 bench/replay_errors.py
+    (cd crates/replay && rt run < /dev/null) && python3 bench/replay_errors.py
 
 Standard output has to be what document 01 gives, and standard error one sentence, or nothing where all could be read and written.
 """
@@ -12,7 +12,7 @@ import sys
 import tempfile
 
 ROOT = os.path.dirname(os.path.dirname(os.path.abspath(__file__)))
-REPLAY = os.path.join(ROOT, 'target', 'bin', 'replay')
+REPLAY = os.path.join(ROOT, 'crates', 'replay', 'out', 'replay')
 SYSTEM = os.path.join(ROOT, 'crates', 'replay', 'data', 'system.tss')
 LOG = b'call 0 5 4 0\ncall 0 8 0 0\npoll'
 ANSWERS = b'boot 0\ncode 1\ncode -38\nidle\n'

@@ -1,9 +1,9 @@
 #!/usr/bin/env python3
 """Times the proved replay program against the yardstick, a replay in ordinary Rust, on the same generated logs (change request C-20).
 
-    rt check replay && python3 bench/yardstick.py [--lines N] [--live N,N] [--regions N,N] [--seed N]
+    (cd crates/replay && rt run < /dev/null) && python3 bench/yardstick.py [--lines N] [--live N,N] [--regions N,N] [--seed N]
 
-Both are optimised builds: `rt check replay` proves, compiles and links target/bin/replay, and cargo builds the yardstick here. Each log is made from the
+Both are optimised builds: `rt run` in crates/replay proves, compiles and links crates/replay/out/replay, and cargo builds the yardstick here. Each log is made from the
 seed with the answers that document 01 gives; both programs have to print exactly these before either is timed. Then they take turns, five runs each, and
 the least time counts. The ratio is the proved program's time divided by the yardstick's, once by the clock and once by the CPU time that the system
 charged, which other work on the machine disturbs less. A log of creates has fewer lines where its records are long or meet many regions.
@@ -80,7 +80,7 @@ def arguments():
     parser.add_argument('--live', type=numbers, default=[1, 15], help='live cells, at most 15 (1,15)')
     parser.add_argument('--regions', type=numbers, default=[3, 64], help='regions of a cell, at most 64 (3,64)')
     parser.add_argument('--seed', type=int, default=logs.SEED, help='what the logs are made from (%d)' % logs.SEED)
-    parser.add_argument('--proved', default=programs.REPLAY, help='the proved program (target/bin/replay)')
+    parser.add_argument('--proved', default=programs.REPLAY, help='the proved program (crates/replay/out/replay)')
     return parser.parse_args()
 
 

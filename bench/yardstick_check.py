@@ -1,7 +1,7 @@
 #!/usr/bin/env python3
 """Holds the yardstick to the proved replay program: on every log here both have to print the same bytes, and what a script expects where one does.
 
-    rt check replay && python3 bench/yardstick_check.py [--seed N] [--logs N] [--package DIR]
+    (cd crates/replay && rt run < /dev/null) && python3 bench/yardstick_check.py [--seed N] [--logs N] [--package DIR]
 
 The logs: those of the samples; those of the scripts of log_test and pages_test; the records of records_test; random logs of random_test's templates, and
 wilder ones; lines around every length that matters, logs that come in pieces and end anywhere; random system records. Every kind of answer has to come in the
@@ -191,7 +191,7 @@ def arguments():
     parser = argparse.ArgumentParser(description='Holds the yardstick to the proved replay program.')
     parser.add_argument('--seed', type=int, default=logs.SEED, help='what random logs are made from (%d)' % logs.SEED)
     parser.add_argument('--logs', type=int, default=300, help='random logs of each kind, of %d lines (300)' % random_logs.LINES)
-    parser.add_argument('--proved', default=programs.REPLAY, help='the proved program (target/bin/replay)')
+    parser.add_argument('--proved', default=programs.REPLAY, help='the proved program (crates/replay/out/replay)')
     parser.add_argument('--package', default=programs.PACKAGE, help='the yardstick (bench/yardstick); a copy with an error in it has to be found out')
     return parser.parse_args()
 

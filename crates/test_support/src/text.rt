@@ -68,7 +68,7 @@ pub fn find(s: &[u8], part: &[u8]) -> usize {
 }
 
 // Where the first byte `b` from a place on is, or the length.
-pub fn find_byte(s: &[u8], at: usize, b: u8) -> usize
+pub(crate) fn find_byte(s: &[u8], at: usize, b: u8) -> usize
     requires { at ≤ length s.now }
     ensures { (at ≤ result) × (result ≤ length s.now) }
 {
