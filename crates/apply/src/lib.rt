@@ -1,5 +1,7 @@
 // What is decided, applied to a machine that is one value: for the entry of one event. The parts are
 // those of `effects`, which the loop over a log stores in place, one by one.
+#![tactic(auto)]
+
 ghost use Rattle.std.specs.Prelude.{◌≡◌, false, List, ◌∷◌, ℕ};
 ghost use Rattle.cell_record.specs.CellRecord.{cell_of};
 ghost use Rattle.rules.specs.State.{with_power, with_waiting};

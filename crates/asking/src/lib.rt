@@ -1,5 +1,7 @@
 // Asking cells, telling them, and hearing their replies: what a call that asks, or hears a cell, does,
 // decided from the sets of cells and the words of the cell heard alone.
+#![tactic(auto)]
+
 ghost use Rattle.std.specs.Prelude.{◌≡◌, false, ℕ, ◌<◌};
 ghost use Rattle.rules.specs.State.{with_waiting, answered};
 ghost use Rattle.rules.specs.Asking.{asks, tells as tells_of, is_destroy, end_code, wait_for, finished, carry_out, none_to_ask, ask as ask_of, hear as hear_of};

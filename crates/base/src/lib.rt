@@ -1,5 +1,6 @@
 // The vocabulary that every layer shares: the return codes, and in specs/ the words of the
 // definitions, "all", "some", a part of a list and "the first rule that holds", with their laws.
+#![tactic(auto)]
 
 // The return codes, by their names in the interface text; -38 by Linux's.
 pub const EPERM: i32 = -1;

@@ -1,5 +1,7 @@
 // What a call decides, by its code: a move, read from small parts of the machine. The caller's CPU is
 // given as it is before its call is counted.
+#![tactic(auto)]
+
 ghost use Rattle.std.specs.Prelude.{◌≡◌, List, ℕ, ◌<◌, ◌≤◌, ℤ};
 ghost use Rattle.machine_state.specs.declared.Waiting.{Waiting};
 ghost use Rattle.machine_state.specs.declared.Machine.{Machine};

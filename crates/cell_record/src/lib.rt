@@ -1,5 +1,7 @@
 // The cell record: its values, and the definitions of its rules. Whether a record keeps the rules is
 // asked in `cell_rules`.
+#![tactic(auto)]
+
 ghost use Rattle.std.specs.Prelude.{◌≡◌, min};
 ghost use Rattle.base.specs.Lists.{any};
 ghost use Rattle.fields.specs.Fields.{u16 as u16_of};

@@ -1,5 +1,7 @@
 // The rules of the cell record, and what it makes Create answer. The rules look at the record's
 // bytes.
+#![tactic(auto)]
+
 ghost use Rattle.std.specs.Prelude.{◌≡◌, ◌&&◌};
 ghost use Rattle.base.specs.Lists.{all};
 ghost use Rattle.cell_record.specs.CellRecord.{cell_of, version_ok, limit_ok, cell_form, cell_regions, region_rules, cell_region_ok, cell_valid, cell_answer, read_cell};

@@ -1,4 +1,6 @@
 // The communication region as its cell reads it: word by word, or byte by byte.
+#![tactic(auto)]
+
 ghost use Rattle.std.specs.Prelude.{◌≡◌, ◌*◌, ◌<◌, get_or};
 ghost use Rattle.cpu_set.specs.CpuSet.{count};
 ghost use Rattle.fields.specs.Fields.{u32};

@@ -1,5 +1,7 @@
 // One cell's communication words, and what is found by looking at the live IDs and the words of
 // all cells.
+#![tactic(auto)]
+
 ghost use Rattle.std.specs.Prelude.{◌≡◌, true, ◌^◌, ◌<◌};
 ghost use Rattle.machine_state.specs.declared.Machine.{Machine};
 ghost use Rattle.machine_state.specs.Machine.{comm_in};

@@ -1,4 +1,6 @@
 // CPU sets as u64 masks: CPU k is a member where bit k is set. No function shifts by 64.
+#![tactic(auto)]
+
 ghost use Rattle.std.specs.Prelude.{◌≡◌};
 ghost use Rattle.cpu_set.specs.CpuSet.{member, subset, meets, is_empty, union as union_of, without as without_of, below, count as count_of};
 

@@ -1,4 +1,6 @@
 // The CPU table: exit counters, failed marks, and what an effect does to the CPUs of a set.
+#![tactic(auto)]
+
 ghost use Rattle.std.specs.Prelude.{◌≡◌, set as set_at};
 ghost use Rattle.machine_state.specs.Machine.{cpu_in};
 ghost use Rattle.rules.specs.Effects.{bump as bump_of, count_exit, fail_cpu, start_cpu, stop_cpu, all_failed, change_in, change_cpus};

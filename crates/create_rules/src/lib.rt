@@ -2,6 +2,8 @@
 // have, no room. Each test looks at the parts of the machine that its rule names, and at the new
 // cell's record in its bytes; what the live cells have comes as what a look at them found
 // (`live_cells`).
+#![tactic(auto)]
+
 ghost use Rattle.std.specs.Prelude.{◌≡◌, ◌+◌, ltb};
 ghost use Rattle.cell_record.specs.CellRecord.{cell_of};
 ghost use Rattle.machine_state.specs.declared.Machine.{Machine};

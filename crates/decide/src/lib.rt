@@ -1,5 +1,7 @@
 // What an event decides: read from small parts of the machine, changing nothing. No function here has
 // a table.
+#![tactic(auto)]
+
 ghost use Rattle.std.specs.Prelude.{◌≡◌, List, ℕ, ◌<◌, ◌≤◌};
 ghost use Rattle.cell_record.specs.declared.CellConfig.{CellConfig};
 ghost use Rattle.cell_record.specs.CellRecord.{cell_of};

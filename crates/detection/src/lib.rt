@@ -1,4 +1,6 @@
 // Detection leaves: what a cell sees of the hypervisor when it executes the cpuid instruction.
+#![tactic(auto)]
+
 ghost use Rattle.std.specs.Prelude.{◌≡◌};
 ghost use Rattle.detection.specs.Detection.{cpuid as cpuid_of};
 

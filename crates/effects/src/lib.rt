@@ -1,5 +1,7 @@
 // What the effect of a call makes of the machine's parts. Each part is stored in its place by
 // `apply`, for the entry of one event, and by the loop over a log.
+#![tactic(auto)]
+
 ghost use Rattle.std.specs.Prelude.{◌≡◌, ◌+◌, ◌-◌, ◌%◌, ◌^◌};
 ghost use Rattle.cell_record.specs.CellRecord.{cell_of};
 ghost use Rattle.rules.specs.Effects.{pool_cost, new_cell, with_phase, clear_words, with_state};

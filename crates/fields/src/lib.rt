@@ -2,6 +2,8 @@
 //
 // Every function takes any bytes. A number whose bytes run past the end is read as if zeros stood
 // there.
+#![tactic(auto)]
+
 ghost use Rattle.std.specs.Prelude.{◌≡◌, ◌+◌, ◌<◌, get_or, take, length};
 ghost use Rattle.base.specs.Lists.{same, part as part_of};
 ghost use Rattle.fields.specs.Fields.{u16, u32, u64, zeros, leading as leading_of, is_name, padded};

@@ -2,19 +2,26 @@
 // file `stdin` is the log, `data` has the machine's record, and `stdout` is what document 01, with
 // the reply limit, answers. A program of a gate's run has one log; the replay program's own is
 // Tuesday's.
-use libc::{STDIN_FILENO, STDOUT_FILENO};
-use test_support::text;
+#![tactic(auto)]
 
-fn main() {
-    let mut record = io::buffer();
-    let n = io::read_full(os::open_read(b"system.tss"), &mut record);
+use std::fs;
+use test_support::{streams, text};
+
+fn main(rt: HostRuntime) {
+    let mut record = [0u8; 4096];
+    // The file stays open while the log is read.
+    let mut opened = fs::open(&rt, "system.tss");
+    let n = match &mut opened {
+        Ok(file) => streams::read_full(file, &mut record),
+        Err(_) => 0,
+    };
     let booted = machine_state::boot(text::first(&record, n));
-    let mut out = io::large_buffer();
+    let mut out = streams::large_buffer();
     let k = texts::put_boot(booted.code, &mut out);
-    io::write_all(STDOUT_FILENO, text::first(&out, k));
+    streams::write_all(&rt, text::first(&out, k));
     let machine = booted.machine;
-    let mut log = io::large_buffer();
-    let len = io::read_full(STDIN_FILENO, &mut log);
+    let mut log = streams::large_buffer();
+    let len = streams::read_full(&mut rt.stdin(), &mut log);
     let ran = replay_log::run(replay_log::start(machine), text::first(&log, len), &mut out);
-    io::write_all(STDOUT_FILENO, text::first(&out, ran.written));
+    streams::write_all(&rt, text::first(&out, ran.written));
 }

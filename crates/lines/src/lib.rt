@@ -2,6 +2,8 @@
 // through its words.
 //
 // Every function that other crates can call takes any bytes of any length.
+#![tactic(auto)]
+
 mod hex;
 mod numbers;
 mod words;

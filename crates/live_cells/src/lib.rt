@@ -1,5 +1,7 @@
 // What a look at the live cells finds for a Create: whether one has the record's name, and whether one
 // has a region in conflict with the record's. A look takes one cell at a time.
+#![tactic(auto)]
+
 ghost use Rattle.std.specs.Prelude.{◌≡◌, true, take};
 ghost use Rattle.base.specs.Lists.{any, same};
 ghost use Rattle.cell_record.specs.CellRecord.{cell_of, cell_regions};

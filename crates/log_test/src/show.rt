@@ -66,20 +66,27 @@ fn put_case(script: &[u8], line: &[u8], e: Expanded, log: &mut [u8]) -> Expanded
     next
 }
 
-fn show_remark(t: Tally, line: &[u8]) -> Tally {
-    cases::remark(line);
+fn show_remark(rt: &impl Print, t: Tally, line: &[u8]) -> Tally {
+    cases::remark(rt, line);
     t
 }
 
 // One line of a block. `head` is the answer to the block's first line, and `answer` the next one of
 // its log.
-fn show_line(t: Tally, script: &[u8], line: &[u8], head: &[u8], answer: &[u8]) -> Tally {
+fn show_line(
+    rt: &impl Print,
+    t: Tally,
+    script: &[u8],
+    line: &[u8],
+    head: &[u8],
+    answer: &[u8],
+) -> Tally {
     match kind_of(line) {
-        0 => cases::record_line(t, script, line),
-        2 | 3 => cases::answered(t, line, head),
-        4 => cases::answered(t, line, answer),
-        6 => cases::unread(t, line, b"this line has no answer"),
-        _ => show_remark(t, line),
+        0 => cases::record_line(rt, t, script, line),
+        2 | 3 => cases::answered(rt, t, line, head),
+        4 => cases::answered(rt, t, line, answer),
+        6 => cases::unread(rt, t, line, b"this line has no answer"),
+        _ => show_remark(rt, t, line),
     }
 }
 
@@ -92,10 +99,17 @@ struct Shown {
 }
 
 // One line more of a block.
-fn show_next(s: Shown, script: &[u8], block: &[u8], head: &[u8], answers: &[u8]) -> Shown {
+fn show_next(
+    rt: &impl Print,
+    s: Shown,
+    script: &[u8],
+    block: &[u8],
+    head: &[u8],
+    answers: &[u8],
+) -> Shown {
     let t = s.tally;
     let line = text::line_at(block, s.at);
-    let tally = show_line(t, script, line, head, text::line_at(answers, s.told));
+    let tally = show_line(rt, t, script, line, head, text::line_at(answers, s.told));
     let at = text::next_line(block, s.at);
     if kind_of(line) != 4 {
         return Shown {
@@ -113,6 +127,7 @@ fn show_next(s: Shown, script: &[u8], block: &[u8], head: &[u8], answers: &[u8])
 
 // Every line of a block.
 pub(crate) fn show_all(
+    rt: &impl Print,
     t: Tally,
     script: &[u8],
     block: &[u8],
@@ -129,16 +144,16 @@ pub(crate) fn show_all(
         if block.len() <= s.at {
             return s.tally;
         }
-        s = show_next(s, script, block, head, answers);
+        s = show_next(rt, s, script, block, head, answers);
         turns -= 1;
     }
     s.tally
 }
 
 // Says of a block what is wrong with its log as a whole, unless `ok`.
-pub(crate) fn checked(t: Tally, ok: bool, block: &[u8], why: &[u8]) -> Tally {
+pub(crate) fn checked(rt: &impl Print, t: Tally, ok: bool, block: &[u8], why: &[u8]) -> Tally {
     if ok {
         return t;
     }
-    cases::unread(t, text::line_at(block, 0), why)
+    cases::unread(rt, t, text::line_at(block, 0), why)
 }

@@ -1,5 +1,7 @@
 // The machine: what the manager keeps between two events. Every value of these types is allowed;
 // which ones a start can reach is a theorem and no precondition.
+#![tactic(auto)]
+
 ghost use Rattle.std.specs.Prelude.{◌≡◌};
 ghost use Rattle.machine_state.specs.Machine.{fresh_cpu, no_comm, no_cell, first_machine, boot_of};
 

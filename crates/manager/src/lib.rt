@@ -1,4 +1,6 @@
 // The manager's one entry for the shim: a machine, one event, one answer.
+#![tactic(auto)]
+
 ghost use Rattle.std.specs.Prelude.{◌≡◌};
 ghost use Rattle.rules.specs.Step.{step as step_of_lem};
 

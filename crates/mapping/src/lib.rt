@@ -1,4 +1,6 @@
 // The question about cell pages: what a page is mapped to for a cell.
+#![tactic(auto)]
+
 ghost use Rattle.std.specs.Prelude.{◌≡◌, take};
 ghost use Rattle.rules.specs.Pages.{has_virt, region_for, access_of, mapped_by, cell_mapping, if_touchable, root_mapping, mapping_of};
 

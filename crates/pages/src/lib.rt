@@ -1,4 +1,6 @@
 // The questions about physical pages: who owns one, and who may touch it.
+#![tactic(auto)]
+
 ghost use Rattle.std.specs.Prelude.{◌≡◌, take};
 ghost use Rattle.base.specs.Lists.{any};
 ghost use Rattle.machine_state.specs.declared.Machine.{Machine};

@@ -17,13 +17,15 @@
 //
 // Until the first `boot` there is no started machine. The numbers of a question are decimal, or
 // after 0x hexadecimal. A question that cannot be read is an error, and counts as wrong.
+#![tactic(auto)]
+
 mod questions;
 mod show;
 
 use lines::{MAX_LINE, MAX_RECORD};
 use machine_state::{Event, Machine};
 use test_support::cases::Tally;
-use test_support::{cases, expand, names, text};
+use test_support::{cases, expand, names, streams, text};
 
 // How far a script has come.
 #[derive(Clone, Copy)]
@@ -33,10 +35,10 @@ struct Progress {
     at: usize,
 }
 
-fn main() {
-    let mut script = io::large_buffer();
-    let n = io::read_full(0, &mut script);
-    cases::total(run(&script[..n]));
+fn main(rt: HostRuntime) {
+    let mut script = streams::large_buffer();
+    let n = streams::read_full(&mut rt.stdin(), &mut script);
+    cases::total(&rt, run(&rt, &script[..n]));
 }
 
 // A machine before its boot.
@@ -46,7 +48,7 @@ fn unbooted() -> Machine {
 }
 
 // Every line of the script.
-fn run(s: &[u8]) -> Tally {
+fn run(rt: &impl Print, s: &[u8]) -> Tally {
     let mut p = Progress {
         machine: unbooted(),
         tally: cases::no_cases(),
@@ -57,18 +59,18 @@ fn run(s: &[u8]) -> Tally {
         if s.len() <= p.at {
             return p.tally;
         }
-        p = next_line(p, s);
+        p = next_line(rt, p, s);
         turns -= 1;
     }
     p.tally
 }
 
 // One line more.
-fn next_line(p: Progress, script: &[u8]) -> Progress {
+fn next_line(rt: &impl Print, p: Progress, script: &[u8]) -> Progress {
     let m = p.machine;
     let t = p.tally;
     let s = text::line_at(script, p.at);
-    let done = line(m, t, script, s);
+    let done = line(rt, m, t, script, s);
     let machine = done.machine;
     let tally = done.tally;
     Progress {
@@ -86,30 +88,30 @@ struct Done {
 }
 
 // One line: a remark, a record, a boot, a question or an event.
-fn line(m: Machine, t: Tally, script: &[u8], s: &[u8]) -> Done {
+fn line(rt: &impl Print, m: Machine, t: Tally, script: &[u8], s: &[u8]) -> Done {
     if (s.len() == 0) | text::starts(s, b"#") {
-        cases::remark(s);
+        cases::remark(rt, s);
         return Done {
             machine: m,
             tally: t,
         };
     }
     if text::starts(s, b"record ") {
-        let tally = cases::record_line(t, script, s);
+        let tally = cases::record_line(rt, t, script, s);
         return Done { machine: m, tally };
     }
     if text::starts(s, b"boot @") {
-        return boot(t, script, s);
+        return boot(rt, t, script, s);
     }
     if questions::is_question(s) {
-        let tally = question(m, t, s);
+        let tally = question(rt, m, t, s);
         return Done { machine: m, tally };
     }
-    event(m, t, script, s)
+    event(rt, m, t, script, s)
 }
 
 // A boot, which is an error where the record cannot be read.
-fn boot(t: Tally, script: &[u8], s: &[u8]) -> Done {
+fn boot(rt: &impl Print, t: Tally, script: &[u8], s: &[u8]) -> Done {
     let mut out = [0u8; 32];
     let asked = cases::asked(s);
     let named = names::record_named(script, text::rest(text::word(asked, 1), 1));
@@ -119,25 +121,26 @@ fn boot(t: Tally, script: &[u8], s: &[u8]) -> Done {
     let machine = booted.machine;
     let n = texts::put_boot(booted.code, &mut out);
     let answer = text::but_last(text::first(&out, n));
-    let tally = shown(t, s, answer, named.ok, b"this record cannot be read");
+    let tally = shown(rt, t, s, answer, named.ok, b"this record cannot be read");
     Done { machine, tally }
 }
 
 // A case with its answer, or the error.
-fn shown(t: Tally, s: &[u8], answer: &[u8], ok: bool, why: &[u8]) -> Tally {
+fn shown(rt: &impl Print, t: Tally, s: &[u8], answer: &[u8], ok: bool, why: &[u8]) -> Tally {
     if ok {
-        cases::answered(t, s, answer)
+        cases::answered(rt, t, s, answer)
     } else {
-        cases::unread(t, s, why)
+        cases::unread(rt, t, s, why)
     }
 }
 
 // A question, which changes nothing.
-fn question(m: Machine, t: Tally, s: &[u8]) -> Tally {
+fn question(rt: &impl Print, m: Machine, t: Tally, s: &[u8]) -> Tally {
     let mut out = [0u8; 128];
     let n = questions::answer_to(m, cases::asked(s), &mut out);
     let answer = text::first(&out, n);
     shown(
+        rt,
         t,
         s,
         answer,
@@ -155,7 +158,7 @@ fn is_event(e: Event) -> bool {
 }
 
 // An event, by the entry for the shim. A malformed line is an error here.
-fn event(m: Machine, t: Tally, script: &[u8], s: &[u8]) -> Done {
+fn event(rt: &impl Print, m: Machine, t: Tally, script: &[u8], s: &[u8]) -> Done {
     let mut line = [0u8; MAX_LINE];
     let mut record = [0u8; MAX_RECORD];
     let mut out = [0u8; 32];
@@ -169,6 +172,7 @@ fn event(m: Machine, t: Tally, script: &[u8], s: &[u8]) -> Done {
     let k = texts::put_answer(answer, &mut out);
     let told = text::but_last(text::first(&out, k));
     let tally = shown(
+        rt,
         t,
         s,
         told,

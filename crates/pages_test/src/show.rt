@@ -1,21 +1,26 @@
 // Answers as text. Each is written to the start of `out`, and its length given.
 use detection::Leaf;
 use machine_state::{Access, Mapping, Owner, RegionByte, RegionWord};
-use test_support::text::put_all;
+use std::io::{Cursor, Write};
+use test_support::text::{first, put_all};
 
 // A number in hexadecimal digits, behind the first `n` bytes.
 fn put_hex(v: u64, out: &mut [u8], n: usize) -> usize {
     let mut digits = [0u8; 16];
-    let k = io::hex(v, 1, &mut digits);
+    let mut cursor = Cursor::new(&mut digits[..]);
+    let _ = write!(cursor, "{v:x}");
+    let k = cursor.position() as usize;
     let at = put_all(out, n, b"0x");
-    put_all(out, at, &digits[..k])
+    put_all(out, at, first(&digits, k))
 }
 
 // A number in decimal digits, behind the first `n` bytes.
 pub(crate) fn put_number(v: u64, out: &mut [u8], n: usize) -> usize {
     let mut digits = [0u8; 20];
-    let k = io::decimal(v, &mut digits);
-    put_all(out, n, &digits[..k])
+    let mut cursor = Cursor::new(&mut digits[..]);
+    let _ = write!(cursor, "{v}");
+    let k = cursor.position() as usize;
+    put_all(out, n, first(&digits, k))
 }
 
 // `cell` and its ID.

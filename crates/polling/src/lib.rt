@@ -1,5 +1,7 @@
 // A poll of a waiting call: whether the cell waited for is heard, or its reply limit cuts it off, and what
 // follows, decided from its words, the sets of cells and the waiting call alone.
+#![tactic(auto)]
+
 ghost use Rattle.std.specs.Prelude.{◌≡◌, false, ◌<◌};
 ghost use Rattle.rules.specs.Effects.{cell_cut_off};
 ghost use Rattle.rules.specs.Asking.{is_heard, hear as hear_of, is_last_poll, poll_cell, poll as poll_of};

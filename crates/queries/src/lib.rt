@@ -1,5 +1,7 @@
 // The three queries: Get Info, Get State, CPU Get Info. Each looks at the parts of the machine that
 // its row names; its answer is right of every machine with these parts.
+#![tactic(auto)]
+
 ghost use Rattle.std.specs.Prelude.{◌≡◌, true, ℕ, ◌-◌, ◌≤◌, get_or};
 ghost use Rattle.cpu_set.specs.CpuSet.{member};
 ghost use Rattle.machine_state.specs.declared.Machine.{Machine};

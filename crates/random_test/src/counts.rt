@@ -1,7 +1,7 @@
 // How often each kind of answer came. The script's lines `answer ..` name the kinds in this order.
 use crate::lines_made::nth;
 use machine_state::Answer;
-use test_support::cases;
+use test_support::{cases, streams};
 
 pub(crate) const KINDS: usize = 23;
 
@@ -57,21 +57,26 @@ pub(crate) fn kind_of_boot(code: i32) -> usize {
 }
 
 // A kind with its count. Each kind that document 01 names has to come, and no other may.
-fn print_kind(name: &[u8], n: u64, comes: bool) {
-    io::write_all(1, name);
-    io::write_all(1, b": ");
-    io::print_decimal(1, n);
+fn print_kind(rt: &impl Print, name: &[u8], n: u64, comes: bool) {
+    streams::write_all(rt, name);
+    streams::write_all(rt, b": ");
+    streams::print_decimal(rt, n);
     if comes == (n == 0) {
-        cases::remark(b"   WRONG");
+        cases::remark(rt, b"   WRONG");
     } else {
-        cases::remark(b"");
+        cases::remark(rt, b"");
     }
 }
 
-pub(crate) fn print(counts: &[u64], script: &[u8]) {
+pub(crate) fn print(rt: &impl Print, counts: &[u64], script: &[u8]) {
     let mut kind = 0;
     while kind < counts.len() {
-        print_kind(nth(script, b"answer", kind as u64), counts[kind], kind < 22);
+        print_kind(
+            rt,
+            nth(script, b"answer", kind as u64),
+            counts[kind],
+            kind < 22,
+        );
         kind += 1;
     }
 }

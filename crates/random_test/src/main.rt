@@ -6,6 +6,8 @@
 // The file `stdin` has the records, the lines that are thrown and the numbers in them (lines_made.rt).
 // The counts in `stdout` are not worked out from document 01: they show that a run is the last one
 // again. `0 broken claims` and no `WRONG` are the test.
+#![tactic(auto)]
+
 mod claims;
 mod counts;
 mod dice;
@@ -15,7 +17,7 @@ mod view;
 use lines::MAX_RECORD;
 use lines_made::{LOG, nth};
 use machine_state::{Booted, Machine, Stepped};
-use test_support::text;
+use test_support::{streams, text};
 
 // How many machines are run, and how many events each of them meets.
 const MACHINES: usize = 77;
@@ -43,14 +45,14 @@ struct Going {
     off: u64,
 }
 
-fn main() {
-    let mut script = io::large_buffer();
-    let n = io::read_full(0, &mut script);
-    run(&script[..n]);
+fn main(rt: HostRuntime) {
+    let mut script = streams::large_buffer();
+    let n = streams::read_full(&mut rt.stdin(), &mut script);
+    run(&rt, &script[..n]);
 }
 
 // Every machine; then the counts, and how many claims were broken.
-fn run(script: &[u8]) {
+fn run(rt: &impl Print, script: &[u8]) {
     let templates = lines_made::templates(script);
     let mut counts = [0u64; counts::KINDS];
     let mut t = Totals {
@@ -62,12 +64,12 @@ fn run(script: &[u8]) {
         let booted = boot(script, left);
         counts::count(&mut counts, counts::kind_of_boot(booted.code));
         let machine = booted.machine;
-        t = events(machine, t, script, templates, &mut counts);
+        t = events(rt, machine, t, script, templates, &mut counts);
         left -= 1;
     }
-    counts::print(&counts, script);
-    io::print_decimal(1, t.broken);
-    io::write_all(1, b" broken claims\n");
+    counts::print(rt, &counts, script);
+    streams::print_decimal(rt, t.broken);
+    streams::write_all(rt, b" broken claims\n");
 }
 
 // The next machine: the script's list `system` has the records, some of which are refused.
@@ -78,7 +80,14 @@ fn boot(script: &[u8], k: usize) -> Booted {
 }
 
 // Every event of a machine.
-fn events(start: Machine, t: Totals, script: &[u8], templates: u64, counts: &mut [u64]) -> Totals {
+fn events(
+    rt: &impl Print,
+    start: Machine,
+    t: Totals,
+    script: &[u8],
+    templates: u64,
+    counts: &mut [u64],
+) -> Totals {
     let mut g = Going {
         machine: start,
         dice: t.dice,
@@ -91,7 +100,7 @@ fn events(start: Machine, t: Totals, script: &[u8], templates: u64, counts: &mut
         if EVENTS_OFF <= g.off {
             return ended(g);
         }
-        g = one_event(g, script, templates);
+        g = one_event(rt, g, script, templates);
         counts::count(counts, g.kind);
         left -= 1;
     }
@@ -106,13 +115,14 @@ fn ended(g: Going) -> Totals {
 }
 
 // One event, by both entries, and the claims.
-fn one_event(g: Going, script: &[u8], templates: u64) -> Going {
+fn one_event(rt: &impl Print, g: Going, script: &[u8], templates: u64) -> Going {
     let mut log = [0u8; LOG];
     let made = lines_made::line(script, templates, g.dice, &mut log);
     let line = text::first(&log, made.n);
     let before = g.machine;
     let stepped = by_shim(before, text::but_last(line));
     let broken = told(
+        rt,
         g.broken,
         script,
         claims::broken(before, stepped, line),
@@ -139,12 +149,12 @@ fn by_shim(m: Machine, line: &[u8]) -> Stepped {
 }
 
 // Prints a broken claim with the line after which it was, and counts it.
-fn told(broken: u64, script: &[u8], claim: u64, line: &[u8]) -> u64 {
+fn told(rt: &impl Print, broken: u64, script: &[u8], claim: u64, line: &[u8]) -> u64 {
     if claim == 0 {
         return broken;
     }
-    io::write_all(1, nth(script, b"claim", claim));
-    io::write_all(1, b": ");
-    io::write_all(1, line);
+    streams::write_all(rt, nth(script, b"claim", claim));
+    streams::write_all(rt, b": ");
+    streams::write_all(rt, line);
     std::num::wrapping_add_u64(broken, 1)
 }

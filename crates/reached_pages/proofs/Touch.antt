@@ -15,7 +15,6 @@ use Rattle.regions.specs.declared.MemRegion.{MemRegion}
 use Rattle.regions.specs.Regions.{comm, loadable, shared}
 use Rattle.machine_state.specs.declared.PhysPage.{PhysPage}
 use Rattle.machine_state.specs.declared.Owner.{Owner}
-use Rattle.machine_state.specs.declared.Owner.TheVariants as Owner
 use Rattle.machine_state.specs.declared.Machine.{Machine}
 use Rattle.rules.specs.State.{cell_at, regions_at, cell_ids, live}
 use Rattle.rules.specs.Pages.{has_phys, has_booted, owns, shares, boot_has, owner_of, is_loading, loads, open_to_root, root_may_touch, cell_may_touch, may_touch}

@@ -1,9 +1,8 @@
 -- The reading-room box. Document 01, the section of that name: its records, byte for byte, and its starred lines as rows of one table.
-use Rattle.std.specs.Prelude.{Bool, true, false, not, ◌&&◌, List, [], ◌∷◌, ◌++◌, ℕ, ◌+◌, eqb, pos, replicate, set}
+use Rattle.std.specs.Prelude.{Bool, true, false, not, ◌&&◌, List, [], ◌∷◌, ◌++◌, ℕ, eqb, pos, replicate, set}
 use Rattle.base.specs.Lists.{all, same}
 use Rattle.base.specs.Rules.{EPERM, ENOENT, EINVAL, EBUSY, EEXIST}
 use Rattle.machine_state.specs.declared.Cpu.{Cpu}
-use Rattle.machine_state.specs.declared.Event.{Event}
 use Rattle.machine_state.specs.declared.Event.TheVariants.{Call, Store, Fault, Poll}
 use Rattle.machine_state.specs.declared.Answer.{Answer}
 use Rattle.machine_state.specs.declared.Answer.TheVariants.{Code, Wait, Done}
@@ -14,7 +13,6 @@ use Rattle.machine_state.specs.declared.Cell.{Cell}
 use Rattle.machine_state.specs.Machine.{boot_of}
 use Rattle.regions.specs.declared.MemRegion.{MemRegion}
 use Rattle.machine_state.specs.declared.Owner.{Owner}
-use Rattle.machine_state.specs.declared.Owner.TheVariants as Owner
 use Rattle.fields.specs.Fields.{padded}
 use Rattle.texts.specs.Texts.{answer_text}
 use Rattle.rules.specs.State.{cell_ids, cell_at, comm_at, cpu_at, with_cpu}

@@ -6,9 +6,11 @@
 // A line of the table is `READER LABEL: WORDS > CODE`. The reader is `system` or `cell`; the words
 // (test_support, words.rt) change the record that was last kept for it by the word `=`, and a system
 // with the word `!` is the one in which later cells are read. Another line is a remark.
+#![tactic(auto)]
+
 use test_support::cases::Tally;
 use test_support::records::Record;
-use test_support::{cases, records, text, words};
+use test_support::{cases, records, streams, text, words};
 
 // What a line leaves for the next: the records that system and cell lines start from, the system
 // that cells are read in, and the cases so far.
@@ -20,14 +22,14 @@ struct Kept {
     tally: Tally,
 }
 
-fn main() {
-    let mut table = io::large_buffer();
-    let n = io::read_full(0, &mut table);
-    cases::total(run(&table[..n]));
+fn main(rt: HostRuntime) {
+    let mut table = streams::large_buffer();
+    let n = streams::read_full(&mut rt.stdin(), &mut table);
+    cases::total(&rt, run(&rt, &table[..n]));
 }
 
 // Every line of the table.
-fn run(s: &[u8]) -> Tally {
+fn run(rt: &impl Print, s: &[u8]) -> Tally {
     let none = records::empty();
     let mut kept = Kept {
         system: none,
@@ -42,7 +44,7 @@ fn run(s: &[u8]) -> Tally {
             return kept.tally;
         }
         let found = text::line_at(s, at);
-        kept = line(kept, found);
+        kept = line(rt, kept, found);
         at = text::plus(text::plus(at, found.len()), 1);
         turns -= 1;
     }
@@ -50,19 +52,19 @@ fn run(s: &[u8]) -> Tally {
 }
 
 // One line.
-fn line(kept: Kept, s: &[u8]) -> Kept {
+fn line(rt: &impl Print, kept: Kept, s: &[u8]) -> Kept {
     if text::starts(s, b"system ") {
-        return system(kept, s);
+        return system(rt, kept, s);
     }
     if text::starts(s, b"cell ") {
-        return cell(kept, s);
+        return cell(rt, kept, s);
     }
     if (s.len() == 0) | text::starts(s, b"#") {
-        cases::remark(s);
+        cases::remark(rt, s);
         return kept;
     }
     let t = kept.tally;
-    with_tally(kept, cases::unread(t, s, b"no reader has this name"))
+    with_tally(kept, cases::unread(rt, t, s, b"no reader has this name"))
 }
 
 fn with_tally(kept: Kept, tally: Tally) -> Kept {
@@ -77,12 +79,12 @@ fn words_of(s: &[u8]) -> &[u8] {
     text::rest(asked, text::plus(text::find(asked, b":"), 1))
 }
 
-fn system(kept: Kept, s: &[u8]) -> Kept {
+fn system(rt: &impl Print, kept: Kept, s: &[u8]) -> Kept {
     let base = kept.system;
     let t = kept.tally;
     let w = words::build(base, words_of(s));
     let r = w.record;
-    let mut next = with_tally(kept, answered(t, s, w.ok, boot_code(r)));
+    let mut next = with_tally(kept, answered(rt, t, s, w.ok, boot_code(r)));
     if w.keep {
         next.system = r;
     }
@@ -92,13 +94,13 @@ fn system(kept: Kept, s: &[u8]) -> Kept {
     next
 }
 
-fn cell(kept: Kept, s: &[u8]) -> Kept {
+fn cell(rt: &impl Print, kept: Kept, s: &[u8]) -> Kept {
     let base = kept.cell;
     let boot = kept.boot;
     let t = kept.tally;
     let w = words::build(base, words_of(s));
     let r = w.record;
-    let mut next = with_tally(kept, answered(t, s, w.ok, cell_code(boot, r)));
+    let mut next = with_tally(kept, answered(rt, t, s, w.ok, cell_code(boot, r)));
     if w.keep {
         next.cell = r;
     }
@@ -123,11 +125,16 @@ fn cell_code(boot: Record, r: Record) -> i32 {
 }
 
 // The line with its answer, or with an error where its words are wrong.
-fn answered(t: Tally, s: &[u8], ok: bool, code: i32) -> Tally {
+fn answered(rt: &impl Print, t: Tally, s: &[u8], ok: bool, code: i32) -> Tally {
     if !ok {
-        return cases::unread(t, s, b"a word cannot be read");
+        return cases::unread(rt, t, s, b"a word cannot be read");
     }
     let mut out = [0u8; 32];
     let n = texts::put_boot(code, &mut out);
-    cases::answered(t, s, text::rest(text::but_last(text::first(&out, n)), 5))
+    cases::answered(
+        rt,
+        t,
+        s,
+        text::rest(text::but_last(text::first(&out, n)), 5),
+    )
 }

@@ -3,6 +3,8 @@
 //
 // A rule on a record's regions looks at the record's bytes. A table has a count of the places in
 // use; a count past its places means all of them.
+#![tactic(auto)]
+
 ghost use Rattle.std.specs.Prelude.{◌≡◌, min, take, drop};
 ghost use Rattle.base.specs.Lists.{all, any, pairwise};
 ghost use Rattle.regions.specs.Regions.{region_of, no_region, comm, apart, inside_phys};

@@ -1,4 +1,6 @@
 // Memory regions: reading one from its 32 bytes, and the rules on one and on two.
+#![tactic(auto)]
+
 ghost use Rattle.std.specs.Prelude.{◌≡◌, ◌+◌, ◌^◌, leb};
 ghost use Rattle.regions.specs.Regions.{region_of, whole_pages, placed, executable, comm, loadable, shared, shared_and_executable, flags_ok, comm_ok};
 ghost use Rattle.regions.specs.Regions.{overlap as overlap_of, inside as inside_of, apart as apart_of, clear_of, inside_phys};

@@ -3,10 +3,16 @@
 //
 // Everything that is answered comes from the libraries; here bytes are only read and written. What
 // cannot be read or written is said on standard error, and nowhere else.
+#![tactic(auto)]
+
+mod streams;
+
 ghost use Rattle.std.specs.Prelude.{◌≤◌, length};
 
-use libc::{STDIN_FILENO, STDOUT_FILENO};
 use replay_log::Replay;
+use std::fs;
+use std::io::{Error, Read};
+use std::rt::Files;
 
 // A replay, and whether it goes on.
 #[derive(Clone, Copy)]
@@ -16,49 +22,64 @@ struct Went {
 }
 
 // Whether a file that was read has come to its end, or fills what it was read into.
-fn is_read(fd: i32, n: usize, room: usize) -> bool {
+fn is_read<R: Read>(file: &mut R, n: usize, room: usize, why: &mut Error) -> bool {
     let mut more = [0u8; 1];
-    (n == room) | (libc::read(fd, &mut more) == 0)
+    let came = streams::read_once(file, &mut more, why);
+    (n == room) | (came == Some(0))
 }
 
 // Reads the system record; of a file that is missing or cannot be read, no bytes.
-fn system_bytes(bytes: &mut [u8]) -> usize
+fn system_bytes(rt: &(impl Files + Eprint), bytes: &mut [u8]) -> usize
     ensures { result ≤ length bytes.new }
 {
-    let fd = os::open_read(b"system.tss");
-    if fd < 0 {
-        os::fail(b"replay: system.tss cannot be opened, so the system record is empty");
+    let mut file = match fs::open(rt, "system.tss") {
+        Ok(file) => file,
+        Err(e) => {
+            streams::fail(
+                rt,
+                "replay: system.tss cannot be opened, so the system record is empty",
+                e,
+            );
+            return 0;
+        }
+    };
+    let mut why = streams::no_error();
+    let n = streams::read_full(&mut file, bytes, &mut why);
+    if !is_read(&mut file, n, bytes.len(), &mut why) {
+        streams::fail(
+            rt,
+            "replay: system.tss cannot be read, so the system record is empty",
+            why,
+        );
         return 0;
     }
-    let n = io::read_full(fd, bytes);
-    if !is_read(fd, n, bytes.len()) {
-        os::fail(b"replay: system.tss cannot be read, so the system record is empty");
-        libc::close(fd);
-        return 0;
-    }
-    libc::close(fd);
     n
 }
 
 // Writes the first `n` bytes of `out`; where that fails, says so.
-fn wrote(out: &[u8], n: usize) -> bool {
+fn wrote(rt: &(impl Print + Eprint), out: &[u8], n: usize) -> bool {
     let text = if n < out.len() { &out[0..n] } else { out };
-    if io::write_all(STDOUT_FILENO, text) {
+    let mut why = streams::no_error();
+    if streams::write_all(rt, text, &mut why) {
         return true;
     }
-    os::fail(b"replay: the answers cannot be written, so the replay stops here");
+    streams::fail(
+        rt,
+        "replay: the answers cannot be written, so the replay stops here",
+        why,
+    );
     false
 }
 
 // Replays a piece of the log and writes the answers.
-fn replay_piece(from: Replay, log: &[u8], out: &mut [u8]) -> Went {
+fn replay_piece(rt: &(impl Print + Eprint), from: Replay, log: &[u8], out: &mut [u8]) -> Went {
     let mut replay = from;
     let mut at = 0;
     while at < log.len() {
         let ran = replay_log::run(replay, &log[at..], out);
         replay = ran.replay;
         let taken = ran.taken;
-        if !wrote(out, ran.written) {
+        if !wrote(rt, out, ran.written) {
             return Went { replay, on: false };
         }
         if taken == 0 {
@@ -71,21 +92,30 @@ fn replay_piece(from: Replay, log: &[u8], out: &mut [u8]) -> Went {
 
 // Reads once and replays what came; at the end of the input, replays a last line without its line
 // feed. An input that breaks off has no last line.
-fn replay_some(from: Replay, piece: &mut [u8], out: &mut [u8]) -> Went {
-    let got = libc::read(STDIN_FILENO, piece);
-    if got < 0 {
-        os::fail(b"replay: the log breaks off here, it cannot be read further");
+fn replay_some<R: Read>(
+    rt: &(impl Print + Eprint),
+    input: &mut R,
+    from: Replay,
+    piece: &mut [u8],
+    out: &mut [u8],
+) -> Went {
+    let mut why = streams::no_error();
+    let Some(n) = streams::read_once(input, piece, &mut why) else {
+        streams::fail(
+            rt,
+            "replay: the log breaks off here, it cannot be read further",
+            why,
+        );
         return Went {
             replay: from,
             on: false,
         };
-    }
-    let n = io::count(got, piece);
+    };
     if 0 < n {
-        return replay_piece(from, &piece[..n], out);
+        return replay_piece(rt, from, &piece[..n], out);
     }
     let k = replay_log::finish(from, out);
-    wrote(out, k);
+    wrote(rt, out, k);
     Went {
         replay: from,
         on: false,
@@ -93,33 +123,31 @@ fn replay_some(from: Replay, piece: &mut [u8], out: &mut [u8]) -> Went {
 }
 
 // Replays standard input. A proved loop has to end, and nothing says that an input does, so the
-// loop counts its turns down from a number that no run uses up.
-fn replay_all(from: Replay) {
-    let mut piece = io::large_buffer();
-    let mut out = io::large_buffer();
+// loop counts its turns up to a number that no run comes to.
+fn replay_all<R: Read>(rt: &(impl Print + Eprint), input: &mut R, from: Replay) {
+    let mut piece = [0u8; 65536];
+    let mut out = [0u8; 65536];
     let mut went = Went {
         replay: from,
         on: true,
     };
-    let mut turns = u64::MAX;
-    while 0 < turns {
+    for _ in 0..u64::MAX {
         let replay = went.replay;
-        went = replay_some(replay, &mut piece, &mut out);
+        went = replay_some(rt, input, replay, &mut piece, &mut out);
         if !went.on {
             return;
         }
-        turns -= 1;
     }
 }
 
-fn main() {
-    let mut bytes = io::buffer();
-    let n = system_bytes(&mut bytes);
+fn main(rt: HostRuntime) {
+    let mut bytes = [0u8; 4096];
+    let n = system_bytes(&rt, &mut bytes);
     let booted = machine_state::boot(&bytes[0..n]);
     let code = booted.code;
     let machine = booted.machine;
     let k = texts::put_boot(code, &mut bytes);
-    if wrote(&bytes, k) & (code == 0) {
-        replay_all(replay_log::start(machine));
+    if wrote(&rt, &bytes, k) & (code == 0) {
+        replay_all(&rt, &mut rt.stdin(), replay_log::start(machine));
     }
 }

@@ -3,6 +3,8 @@
 // The log may come in pieces, cut anywhere. A run keeps the machine and the bytes of a line that
 // has no line feed yet, at most one more than a line may have. What is decided on an event is
 // stored in place, part by part; nothing hands the machine over.
+#![tactic(auto)]
+
 ghost use Rattle.std.specs.Prelude.{◌≡◌, [], ◌++◌, ◌+◌, ◌-◌, ◌≤◌, min, length, take, drop};
 ghost use Rattle.texts.specs.Texts.{put_line, put_count};
 ghost use Rattle.replay_log.specs.Feed.{text_at_end, line_length, going_of};

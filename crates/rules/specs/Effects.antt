@@ -13,7 +13,6 @@ use Rattle.machine_state.specs.declared.Phase.TheVariants.{Suspended, Loading, S
 use Rattle.machine_state.specs.declared.Cell.{Cell}
 use Rattle.machine_state.specs.declared.Power.TheVariants.{Disabled}
 use Rattle.machine_state.specs.declared.CallKind.{CallKind}
-use Rattle.machine_state.specs.declared.CallKind.TheVariants as CallKind
 use Rattle.machine_state.specs.declared.Machine.{Machine}
 use Rattle.machine_state.specs.Machine.{fresh_cpu, no_comm, no_cell, cpu_in, max_cpus}
 use Rattle.rules.specs.State.{root_id, cell_at, comm_at, cpu_at, cell_ids, has_id, ids_where, live, is_final, running, shut_down, failed, with_power, with_pool, with_ids, with_root_cpus, with_cell, with_comm, with_cpus, with_cpu}

@@ -14,7 +14,6 @@ use Rattle.machine_state.specs.declared.PhysPage.{PhysPage}
 use Rattle.machine_state.specs.declared.CellPage.{CellPage}
 use Rattle.machine_state.specs.declared.Access.{Access}
 use Rattle.machine_state.specs.declared.Owner.{Owner}
-use Rattle.machine_state.specs.declared.Owner.TheVariants as Owner
 use Rattle.machine_state.specs.declared.Mapping.{Mapping}
 use Rattle.machine_state.specs.declared.Mapping.TheVariants.{Page, Comm, Unmapped}
 use Rattle.machine_state.specs.declared.Machine.{Machine}

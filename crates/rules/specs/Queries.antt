@@ -1,5 +1,5 @@
 -- Queries. Document 01, "Calls and their return codes", rows 5 to 7 of the table. A row's cases are a table read from the top.
-use Rattle.std.specs.Prelude.{true, false, not, ◌&&◌, ◌||◌, [], ◌∷◌, ℕ, ◌-◌, ◌%◌, ◌^◌, leb, eqb, ℤ, pos, get_or}
+use Rattle.std.specs.Prelude.{not, ◌&&◌, ◌||◌, [], ◌∷◌, ℕ, ◌-◌, ◌%◌, ◌^◌, leb, eqb, ℤ, pos, get_or}
 use Rattle.base.specs.Rules.{first_rule, ◌⇒◌, EPERM, ENOENT, EINVAL}
 use Rattle.cpu_set.specs.CpuSet.{member, count}
 use Rattle.machine_state.specs.declared.Machine.{Machine}

@@ -1,5 +1,7 @@
 // What only a look at many cells or CPUs says of an event: Create's refusal, and whether a fault fails
 // its cell.
+#![tactic(auto)]
+
 ghost use Rattle.std.specs.Prelude.{◌≡◌, not, ◌&&◌, ltb, eqb, set as set_at};
 ghost use Rattle.machine_state.specs.declared.Machine.{Machine};
 ghost use Rattle.machine_state.specs.Machine.{cpu_in, max_cells};

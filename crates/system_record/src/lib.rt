@@ -1,4 +1,6 @@
 // The system record: its values, its rules, and boot's answer.
+#![tactic(auto)]
+
 ghost use Rattle.std.specs.Prelude.{◌≡◌, ◌||◌, min};
 ghost use Rattle.base.specs.Lists.{all};
 ghost use Rattle.fields.specs.Fields.{u16 as u16_of};

@@ -1,6 +1,6 @@
 // A case is a line of a script with the answer that document 01 gives, `LINE > ANSWER`. It is
 // printed with the answer that came, and marked where that is another.
-use crate::{names, text};
+use crate::{names, streams, text};
 
 // How many cases there were, and how many of them were wrong.
 #[derive(Clone, Copy)]
@@ -32,53 +32,53 @@ pub fn wanted(line: &[u8]) -> &[u8] {
 }
 
 // Prints a remark, or another line that has no answer.
-pub fn remark(line: &[u8]) {
-    io::write_all(1, line);
-    io::write_all(1, b"\n");
+pub fn remark(rt: &impl Print, line: &[u8]) {
+    streams::write_all(rt, line);
+    streams::write_all(rt, b"\n");
 }
 
 // Prints a line that cannot be read, and counts it as wrong.
-pub fn unread(t: Tally, line: &[u8], why: &[u8]) -> Tally {
-    io::write_all(1, line);
-    io::write_all(1, b"   ERROR: ");
-    remark(why);
+pub fn unread(rt: &impl Print, t: Tally, line: &[u8], why: &[u8]) -> Tally {
+    streams::write_all(rt, line);
+    streams::write_all(rt, b"   ERROR: ");
+    remark(rt, why);
     counted(t, false)
 }
 
 // Prints a line `record NAME = ..`, which counts as wrong if it cannot be read.
-pub fn record_line(t: Tally, script: &[u8], line: &[u8]) -> Tally {
+pub fn record_line(rt: &impl Print, t: Tally, script: &[u8], line: &[u8]) -> Tally {
     let named = names::record_named(script, text::word(line, 1));
     if named.ok {
-        remark(line);
+        remark(rt, line);
         return t;
     }
-    unread(t, line, b"this record cannot be read")
+    unread(rt, t, line, b"this record cannot be read")
 }
 
 // Prints a case with the answer that came, and counts it.
-pub fn answered(t: Tally, line: &[u8], answer: &[u8]) -> Tally {
+pub fn answered(rt: &impl Print, t: Tally, line: &[u8], answer: &[u8]) -> Tally {
     let right = check::same(answer, wanted(line));
-    io::write_all(1, asked(line));
-    io::write_all(1, b" > ");
+    streams::write_all(rt, asked(line));
+    streams::write_all(rt, b" > ");
     if right {
-        remark(answer);
+        remark(rt, answer);
     } else {
-        wrong(answer, wanted(line));
+        wrong(rt, answer, wanted(line));
     }
     counted(t, right)
 }
 
 // Prints an answer that is not the one that is wanted.
-fn wrong(answer: &[u8], wanted: &[u8]) {
-    io::write_all(1, answer);
-    io::write_all(1, b"   WRONG, expected ");
-    remark(wanted);
+fn wrong(rt: &impl Print, answer: &[u8], wanted: &[u8]) {
+    streams::write_all(rt, answer);
+    streams::write_all(rt, b"   WRONG, expected ");
+    remark(rt, wanted);
 }
 
 // Prints the count.
-pub fn total(t: Tally) {
-    io::print_decimal(1, t.cases);
-    io::write_all(1, b" cases, ");
-    io::print_decimal(1, t.wrong);
-    io::write_all(1, b" wrong\n");
+pub fn total(rt: &impl Print, t: Tally) {
+    streams::print_decimal(rt, t.cases);
+    streams::write_all(rt, b" cases, ");
+    streams::print_decimal(rt, t.wrong);
+    streams::write_all(rt, b" wrong\n");
 }

@@ -2,9 +2,12 @@
 // the line of a script that is printed with its answer. No other crate uses it.
 //
 // Nothing here can go out of range: a place past the end of a text stands for its end.
+#![tactic(auto)]
+
 pub mod cases;
 pub mod expand;
 pub mod names;
 pub mod records;
+pub mod streams;
 pub mod text;
 pub mod words;

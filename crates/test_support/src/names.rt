@@ -27,7 +27,7 @@ fn said<'a, 'b, 'c>(line: &'a [u8], kind: &'b [u8], name: &'c [u8]) -> &'a [u8] 
 pub fn line_of<'a, 'b, 'c>(script: &'a [u8], kind: &'b [u8], name: &'c [u8]) -> &'a [u8] {
     let mut at = 0;
     while at < script.len() {
-        let end = bytes::scan::find(script, at, script.len(), b'\n');
+        let end = text::find_byte(script, at, b'\n');
         let found = said(&script[at..end], kind, name);
         if 0 < found.len() {
             return found;

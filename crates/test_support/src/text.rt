@@ -67,9 +67,22 @@ pub fn find(s: &[u8], part: &[u8]) -> usize {
     i
 }
 
+// Where the first byte `b` from a place on is, or the length.
+pub fn find_byte(s: &[u8], at: usize, b: u8) -> usize
+    requires { at ≤ length s.now }
+    ensures { (at ≤ result) × (result ≤ length s.now) }
+{
+    for i in at..s.len() {
+        if s[i] == b {
+            return i;
+        }
+    }
+    s.len()
+}
+
 // What stands before the first byte `b`, or all.
 pub fn before(s: &[u8], b: u8) -> &[u8] {
-    first(s, bytes::scan::find(s, 0, s.len(), b))
+    first(s, find_byte(s, 0, b))
 }
 
 // The line that begins at a place, without its line feed.
@@ -143,7 +156,7 @@ pub fn index_of(list: &[u8], w: &[u8]) -> usize {
 
 // What a digit stands for; 16 for another byte.
 fn digit(b: u8) -> u64 {
-    bytes::scan::find(b"0123456789abcdef", 0, 16, b) as u64
+    find_byte(b"0123456789abcdef", 0, b) as u64
 }
 
 // A number with one digit more, hexadecimal or decimal.

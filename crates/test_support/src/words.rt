@@ -56,9 +56,9 @@ fn word_end(s: &[u8], at: usize) -> usize
     ensures { (at ≤ result) × (result ≤ length s.now) }
 {
     if s[at] == b'"' {
-        bytes::scan::find(s, at + 1, s.len(), b'"')
+        text::find_byte(s, at + 1, b'"')
     } else {
-        bytes::scan::find(s, at, s.len(), b' ')
+        text::find_byte(s, at, b' ')
     }
 }
 

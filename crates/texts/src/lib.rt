@@ -1,4 +1,6 @@
 // The lines that the replay program prints.
+#![tactic(auto)]
+
 ghost use Rattle.std.specs.Prelude.{◌≡◌, [], ◌∷◌, ◌++◌, ◌+◌, ◌≤◌, length, nat_abs};
 ghost use Rattle.texts.specs.Texts.{decimal, signed, wait_text, answer_line, boot_line, put_line, put_count};
 ghost use Rattle.texts.specs.Put.{Put};

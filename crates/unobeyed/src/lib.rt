@@ -1,4 +1,6 @@
 // Which events are obeyed, and the word that says why the others are not.
+#![tactic(auto)]
+
 ghost use Rattle.std.specs.Prelude.{◌≡◌};
 ghost use Rattle.rules.specs.State.{waits as waits_of};
 ghost use Rattle.rules.specs.Unobeyed.{is_on};

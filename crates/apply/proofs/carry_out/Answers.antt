@@ -1,7 +1,6 @@
 -- `apply::carry_out` meets its contract: none, Disable's, or the effect on one cell. Assumes nothing.
 use mathlib.Core.Path.{sym, ◌∙◌}
 use Rattle.apply.proofs.Laws.{no-effect, disable-comes, effect-comes}
-use Rattle.std.proofs.Common.{rules}
 use Rattle.apply.proofs.carry_out.Goals as goal
 
 pub returns-then-is_disable : goal.returns-then-is_disable

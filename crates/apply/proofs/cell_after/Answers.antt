@@ -4,7 +4,6 @@ use Rattle.cell_record.specs.declared.CellConfig.{CellConfig}
 use Rattle.machine_state.specs.declared.Cell.{Cell}
 use Rattle.effects.specs.declared.CellChange.{CellChange}
 use Rattle.effects.specs.Parts.{changed_cell}
-use Rattle.std.proofs.Common.{rules}
 use Rattle.apply.proofs.cell_after.Goals as goal
 
 by : (change known : CellChange) (new : CellConfig) (c : Cell) → change ≡ known → changed_cell known new c ≡ changed_cell change new c

@@ -3,7 +3,6 @@ use mathlib.Core.Path.{sym}
 use Rattle.rules.specs.State.{with_cpus, with_comm}
 use Rattle.effects.proofs.Applying.{uncut-stays}
 use Rattle.apply.proofs.Laws.{cut-stored}
-use Rattle.std.proofs.Common.{rules}
 use Rattle.apply.proofs.cut_off.Goals as goal
 
 pub returns-then-cut-lt-MAX_CELLS : goal.returns-then-cut-lt-MAX_CELLS

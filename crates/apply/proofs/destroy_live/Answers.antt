@@ -2,7 +2,6 @@
 use mathlib.Core.Path.{refl, sym, ◌∙◌}
 use Rattle.effects.specs.Parts.{is_disable}
 use Rattle.apply.proofs.Laws.{live-destroyed, absent-stays}
-use Rattle.std.proofs.Common.{rules}
 use Rattle.apply.proofs.destroy_live.Goals as goal
 
 pub returns-then-is_live : goal.returns-then-is_live

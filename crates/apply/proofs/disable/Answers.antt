@@ -1,11 +1,10 @@
 -- `apply::disable` meets its contract: the loop's invariant: destroying the cells from i up makes of the machine what destroying all makes of the first. Assumes nothing.
-use mathlib.Core.Path.{◌≡◌, refl, sym, ap, ◌∙◌}
+use mathlib.Core.Path.{refl, sym, ap, ◌∙◌}
 use native.Mathlib.Numerals.{add-one-le}
-use Prim.Native.Nat.{◌-◌, ◌≤◌}
-use Rattle.base.specs.Lists.{from}
+use Prim.Native.Nat.{◌-◌}
 use Rattle.machine_state.specs.declared.Power.TheVariants.{Disabled}
-use Rattle.rules.specs.State.{with_power, cell_ids}
-use Rattle.rules.specs.Effects.{all_destroyed, disabled}
+use Rattle.rules.specs.State.{with_power}
+use Rattle.rules.specs.Effects.{disabled}
 use Rattle.apply.proofs.Laws.{destroy-turn, destroy-end}
 use Rattle.std.proofs.Common.{rules}
 use Rattle.apply.proofs.disable.Goals as goal

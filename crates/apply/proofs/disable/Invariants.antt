@@ -1,13 +1,9 @@
 -- `apply::disable` meets its contract: the loop's invariant: destroying the cells from i up makes of the machine what destroying all makes of the first. Assumes nothing.
-use mathlib.Core.Path.{◌≡◌, refl, sym, ap, ◌∙◌}
-use native.Mathlib.Numerals.{add-one-le}
+use mathlib.Core.Path.{◌≡◌}
 use Prim.Native.Nat.{◌-◌, ◌≤◌}
 use Rattle.base.specs.Lists.{from}
-use Rattle.machine_state.specs.declared.Power.TheVariants.{Disabled}
-use Rattle.rules.specs.State.{with_power, cell_ids}
-use Rattle.rules.specs.Effects.{all_destroyed, disabled}
-use Rattle.apply.proofs.Laws.{destroy-turn, destroy-end}
-use Rattle.std.proofs.Common.{rules}
+use Rattle.rules.specs.State.{cell_ids}
+use Rattle.rules.specs.Effects.{all_destroyed}
 use Rattle.apply.proofs.disable.Given as goal
 
 abbrev pub invariant-loop-i : goal.invariant-loop-i

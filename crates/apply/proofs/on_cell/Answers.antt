@@ -1,11 +1,10 @@
 -- `apply::on_cell` meets its contract: the parts, stored at the cell's place, make the rule's machine. Assumes nothing.
-use mathlib.Core.Path.{◌≡◌, sym, ap, ◌∙◌}
+use mathlib.Core.Path.{◌≡◌, ap, ◌∙◌}
 use Rattle.cell_record.specs.declared.CellConfig.{CellConfig}
 use Rattle.machine_state.specs.declared.Cell.{Cell}
 use Rattle.effects.specs.declared.CellChange.{CellChange}
 use Rattle.effects.specs.Parts.{changed_cell, parts_stored}
 use Rattle.effects.proofs.Laws.{stored-is-effect}
-use Rattle.std.proofs.Common.{rules}
 use Rattle.apply.proofs.on_cell.Goals as goal
 
 as-change : (change known : CellChange) (new : CellConfig) (c r : Cell) → r ≡ changed_cell change new c → change ≡ known → r ≡ changed_cell known new c

@@ -1,7 +1,6 @@
 -- `apply::switch_off` meets its contract: it is the definition. Assumes nothing.
 use mathlib.Core.Path.{refl}
 use Rattle.rules.specs.State.{with_power}
-use Rattle.std.proofs.Common.{rules}
 use Rattle.apply.proofs.switch_off.Goals as goal
 
 pub returns : goal.returns

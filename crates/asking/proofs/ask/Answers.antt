@@ -4,7 +4,6 @@ use mathlib.Core.Bool.{Bool}
 use Prim.Native.Nat.{ℕ}
 use Rattle.rules.specs.Asking.{next_to_message}
 use Rattle.asking.proofs.Laws.{moves-as, asks-one, asks_none}
-use Rattle.std.proofs.Common.{rules}
 use Rattle.asking.proofs.ask.Goals as goal
 
 pub returns-then-next-lt-MAX_CELLS : goal.returns-then-next-lt-MAX_CELLS

@@ -4,7 +4,6 @@ use Rattle.machine_state.specs.declared.CallKind.{CallKind}
 use Prim.Native.Nat.{ℕ}
 use Rattle.rules.specs.Asking.{asks}
 use Rattle.comms.specs.Comms.{among}
-use Rattle.std.proofs.Common.{rules}
 use Rattle.asking.proofs.asked.Goals as goal
 
 abbrev case : (target id : ℕ) {kind known : CallKind} → kind ≡ known → asks known target id ≡ asks kind target id

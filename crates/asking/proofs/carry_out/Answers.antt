@@ -1,7 +1,6 @@
 -- `asking::carry_out` meets its contract: by whether the call tells after its effect. Assumes nothing.
 use mathlib.Core.Path.{sym, ◌∙◌}
 use Rattle.asking.proofs.Laws.{moves-as, carried-told, carried-ended}
-use Rattle.std.proofs.Common.{rules}
 use Rattle.asking.proofs.carry_out.Goals as goal
 
 pub returns-then-tells : goal.returns-then-tells

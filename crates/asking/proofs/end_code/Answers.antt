@@ -7,7 +7,6 @@ use mir.Syntax.{w32}
 use mir.Facts.{to_z-of_z}
 use Rattle.machine_state.specs.declared.CallKind.{CallKind}
 use Rattle.rules.specs.Asking.{end_code}
-use Rattle.std.proofs.Common.{rules}
 use Rattle.asking.proofs.end_code.Goals as goal
 
 abbrev case : (target : ℕ) {kind known : CallKind} → kind ≡ known → end_code known target ≡ end_code kind target

@@ -9,7 +9,6 @@ use Rattle.rules.specs.State.{with_waiting, answered}
 use Rattle.rules.specs.Asking.{finished}
 use Rattle.asking.specs.Moves.{effect_of}
 use Rattle.asking.proofs.Laws.{moves-as}
-use Rattle.std.proofs.Common.{rules}
 use Rattle.asking.proofs.finish.Goals as goal
 
 pub returns : goal.returns

@@ -4,7 +4,6 @@ use Rattle.rules.specs.Asking.{consents}
 use Rattle.comms.specs.Comms.{among}
 use Rattle.asking.specs.Moves.{effect_of}
 use Rattle.asking.proofs.Laws.{moves-as, tells-next, heard-telling, heard-consent, heard-denial, seen}
-use Rattle.std.proofs.Common.{rules}
 use Rattle.asking.proofs.hear.Goals as goal
 
 pub returns-then-stage : goal.returns-then-stage

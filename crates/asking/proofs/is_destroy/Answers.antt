@@ -1,7 +1,6 @@
 -- `asking::is_destroy` meets its contract: each arm is its case of the definition. Assumes nothing.
 use mathlib.Core.Path.{sym, ap}
 use Rattle.rules.specs.Asking.{is_destroy}
-use Rattle.std.proofs.Common.{rules}
 use Rattle.asking.proofs.is_destroy.Goals as goal
 
 pub returns-in-Destroy : goal.returns-in-Destroy

@@ -2,7 +2,6 @@
 use mathlib.Core.Path.{sym, ap₂, ◌∙◌}
 use mathlib.Core.Bool.{Bool, ◌&&◌}
 use Rattle.asking.proofs.Laws.{moves-as, locked, not-locked}
-use Rattle.std.proofs.Common.{rules}
 use Rattle.asking.proofs.none_to_ask.Goals as goal
 
 pub returns-then-is_destroy-is_locked_but : goal.returns-then-is_destroy-is_locked_but

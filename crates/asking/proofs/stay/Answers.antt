@@ -3,7 +3,6 @@ use mathlib.Core.Path.{ap}
 use Rattle.rules.specs.State.{answered}
 use Rattle.asking.specs.Moves.{effect_of}
 use Rattle.asking.proofs.Laws.{moves-as, same-waiting}
-use Rattle.std.proofs.Common.{rules}
 use Rattle.asking.proofs.stay.Goals as goal
 
 pub returns : goal.returns

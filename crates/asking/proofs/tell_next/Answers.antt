@@ -3,7 +3,6 @@ use mathlib.Core.Path.{◌∙◌}
 use mir.Syntax.{w32}
 use mir.Facts.{to_z-of_z}
 use Rattle.asking.proofs.Laws.{moves-as, told-one, told-all}
-use Rattle.std.proofs.Common.{rules}
 use Rattle.asking.proofs.tell_next.Goals as goal
 
 pub returns-then-next-lt-MAX_CELLS : goal.returns-then-next-lt-MAX_CELLS

@@ -1,7 +1,6 @@
 -- `asking::tells` meets its contract: each arm is its case of the definition. Assumes nothing.
 use mathlib.Core.Path.{sym, ap}
 use Rattle.rules.specs.Asking.{tells}
-use Rattle.std.proofs.Common.{rules}
 use Rattle.asking.proofs.tells.Goals as goal
 
 pub returns-in-Create : goal.returns-in-Create

@@ -1,6 +1,5 @@
 -- `asking::wait_for` meets its contract: it is the definition. Assumes nothing.
 use Rattle.asking.proofs.Laws.{waits-for}
-use Rattle.std.proofs.Common.{rules}
 use Rattle.asking.proofs.wait_for.Goals as goal
 
 pub returns : goal.returns

@@ -4,7 +4,6 @@ use mir.Syntax.{w32}
 use mir.Facts.{to_z-of_z}
 use Rattle.rules.specs.Effects.{counted, call_counter}
 use Rattle.calls.proofs.Calls.{calls_by, counted-parts, with-sets, with-waiting, code-disable, code-create, code-start, code-loadable, code-destroy, at_code}
-use Rattle.std.proofs.Common.{rules}
 use Rattle.calls.proofs.by_code.Goals as goal
 
 pub returns-then-code-eq-HYPERVISOR_DISABLE : goal.returns-then-code-eq-HYPERVISOR_DISABLE

@@ -3,7 +3,6 @@ use mathlib.Core.Path.{◌∙◌}
 use Rattle.calls.proofs.Calls.{calls_by, counted-parts, counted-cell, unknown-code, not-root's, by-its-code, call-passed}
 use mir.Syntax.{w32}
 use mir.Facts.{to_z-of_z}
-use Rattle.std.proofs.Common.{rules}
 use Rattle.calls.proofs.call.Goals as goal
 
 pub returns-then-code-gt-CPU_GET_INFO : goal.returns-then-code-gt-CPU_GET_INFO

@@ -5,7 +5,6 @@ use mir.Syntax.{w32}
 use mir.Facts.{to_z-of_z}
 use Rattle.rules.specs.Calls.{ends}
 use Rattle.calls.proofs.Calls.{create-refused, create-asks}
-use Rattle.std.proofs.Common.{rules}
 use Rattle.calls.proofs.create_call.Goals as goal
 
 pub returns-then-scan-eq0 : goal.returns-then-scan-eq0

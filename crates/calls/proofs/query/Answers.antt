@@ -5,7 +5,6 @@ use Rattle.machine_state.specs.declared.Answer.{Answer}
 use Rattle.rules.specs.State.{answered, with_cpus}
 use Rattle.rules.specs.Effects.{counted, call_counter}
 use Rattle.calls.proofs.Calls.{code-info, code-state, code-cpu, at_code}
-use Rattle.std.proofs.Common.{rules}
 use Rattle.calls.proofs.query.Goals as goal
 
 pub returns-then-code-eq-HYPERVISOR_GET_INFO : goal.returns-then-code-eq-HYPERVISOR_GET_INFO

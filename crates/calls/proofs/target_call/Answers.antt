@@ -6,7 +6,6 @@ use Rattle.machine_state.specs.declared.Machine.{Machine}
 use Rattle.rules.specs.State.{has_id, live}
 use Rattle.calls.proofs.Calls.{target-root, target-absent, target-locked, target-asks}
 use Rattle.asking.proofs.Laws.{moves-as}
-use Rattle.std.proofs.Common.{rules}
 use Rattle.calls.proofs.target_call.Goals as goal
 
 -- what the code found of the live IDs, it found of the machine's

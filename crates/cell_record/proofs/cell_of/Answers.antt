@@ -3,7 +3,6 @@ use mathlib.Core.Path.{ap}
 use Prim.Native.Nat.{ℕ, ◌%◌}
 use lib.Dec.{eqb}
 use Rattle.cell_record.specs.CellRecord.{cell_of}
-use Rattle.std.proofs.Common.{rules}
 use Rattle.cell_record.proofs.cell_of.Goals as goal
 
 pub returns : goal.returns

@@ -1,12 +1,9 @@
 -- `cell_record::cell_table` meets its contract. The loop's invariant: the table holds the first i regions of the record. Assumes nothing.
-use mathlib.Core.Path.{◌≡◌, refl, ◌∙◌}
+use mathlib.Core.Path.{◌≡◌}
 use Prim.Native.Nat.{◌≤◌, ◌-◌}
-use native.Mathlib.Omega.{arith}
-use lib.ListN.{length, length-set}
-use Rattle.region_table.specs.Tables.{max_regions, region_at}
-use Rattle.region_table.proofs.Laws.{Filled, filled_none, filled_more, filled-all}
-use Rattle.cell_record.specs.CellRecord.{cell_of}
-use Rattle.std.proofs.Common.{rules}
+use lib.ListN.{length}
+use Rattle.region_table.specs.Tables.{max_regions}
+use Rattle.region_table.proofs.Laws.{Filled}
 use Rattle.cell_record.proofs.cell_table.Given as goal
 
 abbrev pub invariant-loop-i : goal.invariant-loop-i

@@ -1,7 +1,7 @@
 -- `cell_record::has_comm` meets its contract. The loop's invariant: the flag says whether a region passed is a communication region.
 -- Assumes nothing.
 use mathlib.Core.Path.{◌≡◌, sym, ap, ◌∙◌}
-use Prim.Native.Nat.{ℕ, ◌≤◌, ◌-◌}
+use Prim.Native.Nat.{ℕ, ◌-◌}
 use native.Mathlib.Omega.{arith}
 use Rattle.base.specs.Lists.{any}
 use Rattle.regions.specs.declared.MemRegion.{MemRegion}
@@ -16,11 +16,10 @@ pub loop-i-init : goal.loop-i-init
 loop-i-init c = (search rules, any-no-region _ _ _)
 
 pub loop-i-preserved : goal.loop-i-preserved
-loop-i-preserved c =
-    (
-      search rules,
-      any-regions _ _ c.loop-i.i comm _ _ c.loop-i.invariant.1 (c.is_comm-found.ensures ∙ ap (λ (r : MemRegion). comm r) c.region.ensures),
-    )
+loop-i-preserved c = (
+  search rules,
+  any-regions _ _ c.loop-i.i comm _ _ c.loop-i.invariant.1 (c.is_comm-found.ensures ∙ ap (λ (r : MemRegion). comm r) c.region.ensures),
+)
 
 pub returns : goal.returns
 returns c =

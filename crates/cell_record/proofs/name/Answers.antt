@@ -2,7 +2,6 @@
 use mathlib.Core.Path.{ap, ◌∙◌}
 use Rattle.fields.specs.Fields.{padded}
 use Rattle.cell_record.specs.CellRecord.{cell_of}
-use Rattle.std.proofs.Common.{rules}
 use Rattle.cell_record.proofs.name.Goals as goal
 
 pub returns : goal.returns

@@ -1,6 +1,5 @@
 -- `cell_record::region` meets its contract: it is the definition. Assumes nothing.
 use Rattle.region_table.specs.Tables.{region_at}
-use Rattle.std.proofs.Common.{rules}
 use Rattle.cell_record.proofs.region.Goals as goal
 
 pub returns : goal.returns

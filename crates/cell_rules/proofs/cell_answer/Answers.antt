@@ -4,7 +4,6 @@ use mathlib.Core.Bool.{not}
 use borrow.Author.Tests.{lt-ltb, le-ltb}
 use Rattle.base.proofs.Rules.{rule-holds, rule-passed, no-rule}
 use Rattle.cell_record.specs.CellRecord.{cell_answer}
-use Rattle.std.proofs.Common.{rules}
 use Rattle.cell_rules.proofs.cell_answer.Goals as goal
 
 pub returns-then-s-gt-MAX_LENGTH : goal.returns-then-s-gt-MAX_LENGTH

@@ -7,7 +7,6 @@ use lib.ListN.{length}
 use Rattle.fields.specs.Fields.{zeros}
 use Rattle.region_table.specs.Tables.{max_regions}
 use Rattle.cell_record.specs.CellRecord.{cell_form}
-use Rattle.std.proofs.Common.{rules}
 use Rattle.cell_rules.proofs.cell_form.Goals as goal
 
 pub returns : goal.returns

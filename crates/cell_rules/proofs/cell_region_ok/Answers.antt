@@ -1,7 +1,6 @@
 -- `cell_rules::cell_region_ok` meets its contract: it is the definition, with what its parts ensure. Assumes nothing.
 use mathlib.Core.Bool.{not, ◌&&◌}
 use Rattle.cell_record.specs.CellRecord.{cell_region_ok}
-use Rattle.std.proofs.Common.{rules}
 use Rattle.cell_rules.proofs.cell_region_ok.Goals as goal
 
 pub returns : goal.returns

@@ -1,6 +1,6 @@
 -- `cell_rules::cell_valid` meets its contract: it is the definition, with what its parts ensure of the record's bytes. Assumes nothing.
 use mathlib.Core.Path.{sym, ap, ◌∙◌}
-use mathlib.Core.Bool.{Bool, not, ◌&&◌, ◌||◌}
+use mathlib.Core.Bool.{not, ◌&&◌, ◌||◌}
 use Prim.Native.Nat.{ℕ, ◌%◌}
 use lib.Dec.{eqb}
 use Rattle.base.specs.Lists.{pairwise}
@@ -10,7 +10,6 @@ use Rattle.regions.specs.Regions.{apart}
 use Rattle.region_table.specs.Tables.{regions_of}
 use Rattle.cell_record.specs.CellRecord.{cell_of, cell_valid}
 use Rattle.cell_record.proofs.Laws.{record-regions}
-use Rattle.std.proofs.Common.{rules}
 use Rattle.cell_rules.proofs.cell_valid.Goals as goal
 
 pub returns : goal.returns

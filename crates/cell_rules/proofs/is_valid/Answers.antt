@@ -3,7 +3,6 @@ use mathlib.Core.Path.{◌∙◌}
 use Rattle.cell_rules.proofs.Laws.{unformed, formed}
 use mathlib.Core.Path.{ap}
 use mathlib.Core.Bool.{not}
-use Rattle.std.proofs.Common.{rules}
 use Rattle.cell_rules.proofs.is_valid.Goals as goal
 
 pub returns-then-not-cell_form : goal.returns-then-not-cell_form

@@ -4,7 +4,6 @@ use mathlib.Core.Bool.{◌||◌}
 use lib.Dec.{eqb}
 use Rattle.fields.specs.Fields.{zeros}
 use Rattle.cell_record.specs.CellRecord.{limit_ok}
-use Rattle.std.proofs.Common.{rules}
 use Rattle.cell_rules.proofs.limit_ok.Goals as goal
 
 pub returns : goal.returns

@@ -4,7 +4,6 @@ use mathlib.Core.Path.{◌∙◌}
 use mir.Syntax.{w32}
 use mir.Facts.{to_z-of_z}
 use Rattle.cell_record.specs.CellRecord.{read_cell}
-use Rattle.std.proofs.Common.{rules}
 use Rattle.cell_rules.proofs.read_cell.Goals as goal
 
 pub returns : goal.returns

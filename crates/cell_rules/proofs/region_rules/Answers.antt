@@ -2,7 +2,6 @@
 use Rattle.cell_rules.proofs.Laws.{region-free, region-tied}
 use mathlib.Core.Path.{ap}
 use mathlib.Core.Bool.{not}
-use Rattle.std.proofs.Common.{rules}
 use Rattle.cell_rules.proofs.region_rules.Goals as goal
 
 pub returns-then-not-is_loadable-is_shared : goal.returns-then-not-is_loadable-is_shared

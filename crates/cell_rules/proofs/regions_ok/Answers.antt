@@ -1,10 +1,9 @@
 -- `cell_rules::regions_ok` meets its contract. The loop's invariant: the flag says whether every region passed keeps the rules.
 -- Assumes nothing.
 use mathlib.Core.Path.{◌≡◌, sym, ap, ◌∙◌}
-use Prim.Native.Nat.{ℕ, ◌≤◌, ◌-◌}
+use Prim.Native.Nat.{ℕ, ◌-◌}
 use native.Mathlib.Omega.{arith}
 use Rattle.base.specs.Lists.{all}
-use Rattle.regions.specs.declared.MemRegion.{MemRegion}
 use Rattle.cell_record.specs.CellRecord.{cell_region_ok}
 use Rattle.region_table.specs.Tables.{regions_of}
 use Rattle.region_table.proofs.Laws.{all-no-region, all-regions}
@@ -16,11 +15,10 @@ pub loop-i-init : goal.loop-i-init
 loop-i-init c = (search rules, all-no-region _ _ _)
 
 pub loop-i-preserved : goal.loop-i-preserved
-loop-i-preserved c =
-    (
-      search rules,
-      all-regions _ _ c.loop-i.i (cell_region_ok c.args.boot) _ _ c.loop-i.invariant.1 (c.cell_region_ok-ok.ensures ∙ ap (cell_region_ok c.args.boot) c.region.ensures),
-    )
+loop-i-preserved c = (
+  search rules,
+  all-regions _ _ c.loop-i.i (cell_region_ok c.args.boot) _ _ c.loop-i.invariant.1 (c.cell_region_ok-ok.ensures ∙ ap (cell_region_ok c.args.boot) c.region.ensures),
+)
 
 pub returns : goal.returns
 returns c =

@@ -1,15 +1,10 @@
 -- `cell_rules::regions_ok` meets its contract. The loop's invariant: the flag says whether every region passed keeps the rules.
 -- Assumes nothing.
-use mathlib.Core.Path.{◌≡◌, sym, ap, ◌∙◌}
-use Prim.Native.Nat.{ℕ, ◌≤◌, ◌-◌}
-use native.Mathlib.Omega.{arith}
+use mathlib.Core.Path.{◌≡◌}
+use Prim.Native.Nat.{◌≤◌, ◌-◌}
 use Rattle.base.specs.Lists.{all}
-use Rattle.regions.specs.declared.MemRegion.{MemRegion}
 use Rattle.cell_record.specs.CellRecord.{cell_region_ok}
 use Rattle.region_table.specs.Tables.{regions_of}
-use Rattle.region_table.proofs.Laws.{all-no-region, all-regions}
-use Rattle.cell_record.proofs.Laws.{record-regions}
-use Rattle.std.proofs.Common.{rules}
 use Rattle.cell_rules.proofs.regions_ok.Given as goal
 
 abbrev pub invariant-loop-i : goal.invariant-loop-i

@@ -4,7 +4,6 @@ use mathlib.Core.Bool.{◌||◌}
 use Prim.Native.Nat.{ℕ}
 use lib.Dec.{eqb}
 use Rattle.cell_record.specs.CellRecord.{version_ok}
-use Rattle.std.proofs.Common.{rules}
 use Rattle.cell_rules.proofs.version_ok.Goals as goal
 
 pub returns : goal.returns

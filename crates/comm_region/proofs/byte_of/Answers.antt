@@ -1,6 +1,5 @@
 -- `comm_region::byte_of` meets its contract: a shift by 8 bits leaves the next byte. Assumes nothing.
 use Rattle.comm_region.proofs.Laws.{byte-shift}
-use Rattle.std.proofs.Common.{rules}
 use Rattle.comm_region.proofs.byte_of.Goals as goal
 
 pub returns : goal.returns

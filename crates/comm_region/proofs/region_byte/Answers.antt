@@ -2,7 +2,6 @@
 use mathlib.Core.Path.{sym, ap, ◌∙◌}
 use Rattle.machine_state.specs.declared.RegionByte.TheVariants as RegionByte
 use Rattle.comm_region.proofs.Laws.{byte-of-word}
-use Rattle.std.proofs.Common.{rules}
 use Rattle.comm_region.proofs.region_byte.Goals as goal
 
 pub returns-in-NoWord : goal.returns-in-NoWord

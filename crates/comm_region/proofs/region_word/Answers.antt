@@ -3,7 +3,6 @@ use mathlib.Core.Path.{refl, sym, ap, ◌∙◌}
 use mathlib.Core.Bool.{false}
 use Rattle.machine_state.specs.declared.RegionWord.TheVariants as RegionWord
 use Rattle.comm_region.proofs.Laws.{not_seen, no_word, a_word, in-region}
-use Rattle.std.proofs.Common.{rules}
 use Rattle.comm_region.proofs.region_word.Goals as goal
 
 pub returns-then-i-ge-MAX_CELLS : goal.returns-then-i-ge-MAX_CELLS

@@ -1,6 +1,5 @@
 -- `comm_region::sees_region` meets its contract: the test is the definition. Assumes nothing.
 use Rattle.rules.specs.CommRegion.{sees_region}
-use Rattle.std.proofs.Common.{rules}
 use Rattle.comm_region.proofs.sees_region.Goals as goal
 
 pub returns : goal.returns

@@ -6,7 +6,6 @@ use native.Mathlib.Omega.{arith}
 use Rattle.cpu_set.specs.CpuSet.{count}
 use Rattle.rules.specs.CommRegion.{bytes, layout}
 use Rattle.comm_region.proofs.Laws.{number-bytes, number-halves, word-is, count-64}
-use Rattle.std.proofs.Common.{rules}
 use Rattle.comm_region.proofs.word_of.Goals as goal
 
 pub returns-then-word-eq0 : goal.returns-then-word-eq0

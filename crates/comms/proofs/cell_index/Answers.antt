@@ -3,7 +3,6 @@ use Prim.Native.Nat.{◌<◌, ◌≤◌}
 use mathlib.Core.Path.{sym}
 use native.Mathlib.Omega.{arith}
 use Rattle.comms.proofs.Laws.{cell-inside, cell-outside}
-use Rattle.std.proofs.Common.{rules}
 use Rattle.comms.proofs.cell_index.Goals as goal
 
 pub returns-then-id-lt-MAX_CELLS : goal.returns-then-id-lt-MAX_CELLS

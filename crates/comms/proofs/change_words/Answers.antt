@@ -3,7 +3,6 @@ use mathlib.Core.Path.{◌≡◌, sym, ap, ◌∙◌}
 use Rattle.machine_state.specs.declared.CommRegion.{CommRegion}
 use Rattle.comms.specs.Comms.{words_of}
 use Rattle.comms.specs.declared.WordsChange.{WordsChange}
-use Rattle.std.proofs.Common.{rules}
 use Rattle.comms.proofs.change_words.Goals as goal
 
 abbrev case : (w : CommRegion) {how known : WordsChange} → how ≡ known → words_of known w ≡ words_of how w

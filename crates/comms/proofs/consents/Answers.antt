@@ -5,7 +5,6 @@ use lib.Dec.{eqb}
 use Rattle.machine_state.specs.declared.CommRegion.{CommRegion}
 use Rattle.rules.specs.State.{is_final}
 use Rattle.rules.specs.Asking.{consents, request_approved}
-use Rattle.std.proofs.Common.{rules}
 use Rattle.comms.proofs.consents.Goals as goal
 
 consented : (w : CommRegion) (final : Bool) → final ≡ is_final w.cell_state → (final || eqb w.reply_from_cell request_approved) ≡ consents w

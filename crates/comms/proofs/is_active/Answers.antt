@@ -6,7 +6,6 @@ use lib.Dec.{eqb}
 use Rattle.machine_state.specs.declared.CommRegion.{CommRegion}
 use Rattle.machine_state.specs.declared.Machine.{Machine}
 use Rattle.rules.specs.State.{root_id, has_id, comm_at, is_final, active}
-use Rattle.std.proofs.Common.{rules}
 use Rattle.comms.proofs.is_active.Goals as goal
 
 here : (ids id : ℕ) (w : CommRegion) (live final : Bool) → live ≡ has_id ids id → final ≡ is_final w.cell_state

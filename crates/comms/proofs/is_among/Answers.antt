@@ -3,7 +3,6 @@ use mathlib.Core.Path.{◌≡◌, sym, ap}
 use Prim.Native.Nat.{ℕ}
 use Rattle.comms.specs.Comms.{among}
 use Rattle.comms.specs.declared.Whom.{Whom}
-use Rattle.std.proofs.Common.{rules}
 use Rattle.comms.proofs.is_among.Goals as goal
 
 abbrev case : (id : ℕ) {whom known : Whom} → whom ≡ known → among known id ≡ among whom id

@@ -5,7 +5,6 @@ use lib.Dec.{eqb}
 use Rattle.machine_state.specs.declared.CommRegion.{CommRegion}
 use Rattle.rules.specs.State.{is_final}
 use Rattle.rules.specs.Asking.{is_heard}
-use Rattle.std.proofs.Common.{rules}
 use Rattle.comms.proofs.is_heard.Goals as goal
 
 heard : (w : CommRegion) (final : Bool) → final ≡ is_final w.cell_state → (not (eqb w.reply_from_cell 0) || final) ≡ is_heard w

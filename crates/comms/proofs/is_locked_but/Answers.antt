@@ -6,10 +6,10 @@ use Prim.Native.Nat.{ℕ, ◌-◌, ◌<◌, ◌≤◌}
 use native.Mathlib.Omega.{arith}
 use lib.Dec.{eqb}
 use Rattle.machine_state.specs.declared.Machine.{Machine}
-use Rattle.rules.specs.State.{active, state_at, is_locked, ids_where}
+use Rattle.rules.specs.State.{active, state_at, is_locked}
 use Rattle.rules.specs.Create.{other_cell_locked}
 use Rattle.comms.specs.Sets.{has_locked}
-use Rattle.id_set.proofs.Laws.{any_from, any-start, any-turn, any-all}
+use Rattle.id_set.proofs.Laws.{any-start, any-turn, any-all}
 use Rattle.id_set.proofs.Ids.{has-picked}
 use Rattle.comms.proofs.is_locked_but.Invariants.{lock}
 use Rattle.std.proofs.Common.{rules}

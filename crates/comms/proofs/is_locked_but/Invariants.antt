@@ -1,17 +1,13 @@
 -- `comms::is_locked_but` meets its contract. The loop's invariant: the flag says whether an active cell from i up, other than the given one,
 -- is locked. Assumes nothing.
-use mathlib.Core.Path.{◌≡◌, refl, ap, ◌∙◌}
-use mathlib.Core.Bool.{Bool, true, false, not, ◌&&◌}
-use Prim.Native.Nat.{ℕ, ◌-◌, ◌<◌, ◌≤◌}
-use native.Mathlib.Omega.{arith}
+use mathlib.Core.Path.{◌≡◌}
+use mathlib.Core.Bool.{Bool, not, ◌&&◌}
+use Prim.Native.Nat.{ℕ, ◌-◌, ◌≤◌}
 use lib.Dec.{eqb}
 use Rattle.machine_state.specs.declared.Machine.{Machine}
 use Rattle.rules.specs.State.{active, state_at, is_locked, ids_where}
-use Rattle.rules.specs.Create.{other_cell_locked}
 use Rattle.comms.specs.Sets.{has_locked}
-use Rattle.id_set.proofs.Laws.{any_from, any-start, any-turn, any-all}
-use Rattle.id_set.proofs.Ids.{has-picked}
-use Rattle.std.proofs.Common.{rules}
+use Rattle.id_set.proofs.Laws.{any_from}
 use Rattle.comms.proofs.is_locked_but.Given as goal
 
 abbrev pub lock : ℕ → Machine → ℕ → Bool

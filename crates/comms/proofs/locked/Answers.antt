@@ -7,8 +7,7 @@ use Rattle.machine_state.specs.declared.CommRegion.{CommRegion}
 use Rattle.machine_state.specs.declared.Machine.{Machine}
 use Rattle.rules.specs.State.{active, comm_at, is_locked}
 use Rattle.comms.specs.Sets.{has_locked}
-use Rattle.comms.proofs.Sets.{Gathers, gathers-none, gathers-more, gathers-all}
-use Rattle.std.proofs.Common.{rules}
+use Rattle.comms.proofs.Sets.{gathers-none, gathers-more, gathers-all}
 use Rattle.comms.proofs.locked.Goals as goal
 
 -- a cell's own test, from what the code found of it

@@ -1,7 +1,6 @@
 -- `comms::message` meets its contract: it is the definition. Assumes nothing.
 use mathlib.Core.Path.{refl}
 use Rattle.rules.specs.Asking.{message}
-use Rattle.std.proofs.Common.{rules}
 use Rattle.comms.proofs.message.Goals as goal
 
 pub returns : goal.returns

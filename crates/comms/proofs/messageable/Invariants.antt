@@ -1,14 +1,7 @@
 -- `comms::messageable` meets its contract. The loop's invariant: the set has the IDs below i of the cells that may be messaged. Assumes nothing.
-use mathlib.Core.Path.{◌≡◌, sym, ap, ◌∙◌}
-use mathlib.Core.Bool.{Bool, not, ◌&&◌, true≢false}
-use Prim.Native.Nat.{ℕ, ◌-◌, ◌<◌, ◌≤◌}
-use native.Mathlib.Omega.{arith}
-use Rattle.machine_state.specs.declared.CommRegion.{CommRegion}
-use Rattle.machine_state.specs.declared.Machine.{Machine}
-use Rattle.rules.specs.State.{active, comm_at}
+use Prim.Native.Nat.{◌-◌}
 use Rattle.rules.specs.Asking.{may_be_messaged}
-use Rattle.comms.proofs.Sets.{Gathers, gathers-none, gathers-more, gathers-all}
-use Rattle.std.proofs.Common.{rules}
+use Rattle.comms.proofs.Sets.{Gathers}
 use Rattle.comms.proofs.messageable.Given as goal
 
 abbrev pub invariant-loop-i : goal.invariant-loop-i

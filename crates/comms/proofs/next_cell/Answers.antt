@@ -1,15 +1,11 @@
 -- `comms::next_cell` meets its contract. The loop's invariant: the number is the first cell to message from i up. Assumes nothing.
-use mathlib.Core.Path.{◌≡◌, ap₂, ◌∙◌}
+use mathlib.Core.Path.{ap₂, ◌∙◌}
 use mathlib.Core.Bool.{Bool, ◌&&◌}
-use Prim.Native.Nat.{ℕ, ◌-◌, ◌<◌, ◌≤◌}
+use Prim.Native.Nat.{◌-◌, ◌<◌, ◌≤◌}
 use native.Mathlib.Omega.{arith}
 use lib.Dec.{ltb}
-use Rattle.machine_state.specs.declared.Machine.{Machine}
-use Rattle.rules.specs.State.{ids_where}
 use Rattle.rules.specs.Asking.{may_be_messaged, next_to_message}
-use Rattle.comms.specs.Comms.{among}
-use Rattle.comms.specs.declared.Whom.{Whom}
-use Rattle.id_set.proofs.Laws.{first_from, first-start, first-turn, first-all}
+use Rattle.id_set.proofs.Laws.{first-start, first-turn, first-all}
 use Rattle.id_set.proofs.Ids.{has-picked}
 use Rattle.std.proofs.Common.{rules}
 use Rattle.comms.proofs.next_cell.Goals as goal

@@ -1,7 +1,6 @@
 -- `comms::store_word` meets its contract: by the word. Assumes nothing.
 use Rattle.rules.specs.Effects.{store_word}
 use Rattle.comms.proofs.Laws.{store-state}
-use Rattle.std.proofs.Common.{rules}
 use Rattle.comms.proofs.store_word.Goals as goal
 
 pub returns-then-word-eq0 : goal.returns-then-word-eq0

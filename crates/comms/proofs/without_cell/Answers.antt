@@ -1,6 +1,5 @@
 -- `comms::without_cell` meets its contract: the cell is dropped from each. Assumes nothing.
 use Rattle.comms.specs.Sets.{sets_without}
-use Rattle.std.proofs.Common.{rules}
 use Rattle.comms.proofs.without_cell.Goals as goal
 
 pub returns : goal.returns

@@ -3,7 +3,6 @@ use mathlib.Core.Path.{sym, ◌∙◌}
 use native.Mathlib.Omega.{arith}
 use lib.ListN.{get_or-eq_default}
 use Rattle.machine_state.specs.Machine.{no_comm, past_comm}
-use Rattle.std.proofs.Common.{rules}
 use Rattle.comms.proofs.words_at.Goals as goal
 
 pub returns-else-id-lt-MAX_CELLS : goal.returns-else-id-lt-MAX_CELLS

@@ -3,7 +3,6 @@ use mathlib.Core.Path.{sym}
 use native.Mathlib.Omega.{arith}
 use Rattle.base.proofs.Tests.{is_false}
 use Rattle.cpu_set.proofs.Laws.{member-lt, member-bit}
-use Rattle.std.proofs.Common.{rules}
 use Rattle.cpu_set.proofs.contains.Goals as goal
 
 pub returns-then-cpu-ge64 : goal.returns-then-cpu-ge64

@@ -7,7 +7,6 @@ use Rattle.base.proofs.Lists.{all_same}
 use Rattle.cpu_set.specs.CpuSet.{meets, is_empty}
 use Rattle.base.proofs.Lists.{any-not-all}
 use Rattle.cpu_set.proofs.Laws.{zero-is_empty, member-and}
-use Rattle.std.proofs.Common.{rules}
 use Rattle.cpu_set.proofs.intersects.Goals as goal
 
 pub returns : goal.returns

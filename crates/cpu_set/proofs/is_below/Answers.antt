@@ -10,7 +10,6 @@ use Rattle.base.proofs.Lists.{up_to-intro, up_to-elim}
 use Rattle.cpu_set.specs.CpuSet.{member, is_empty, below}
 use Rattle.base.proofs.Tests.{implies-intro, implies-elim}
 use Rattle.cpu_set.proofs.Laws.{zero-is_empty, member-lt, member-shr, shr_high}
-use Rattle.std.proofs.Common.{rules}
 use Rattle.cpu_set.proofs.is_below.Goals as goal
 
 shifted : (a n : ℕ) → a < 2 ^ 64 → eqb (a / 2 ^ n) 0 ≡ below a n

@@ -1,6 +1,5 @@
 -- 0 is the only number of 64 bits that has no member. Assumes nothing.
 use Rattle.cpu_set.proofs.Laws.{zero-is_empty}
-use Rattle.std.proofs.Common.{rules}
 use Rattle.cpu_set.proofs.is_empty.Goals as goal
 
 pub returns : goal.returns

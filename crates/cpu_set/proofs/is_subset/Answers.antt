@@ -6,7 +6,6 @@ use Rattle.base.specs.Lists.{up_to}
 use Rattle.base.proofs.Lists.{all_same}
 use Rattle.cpu_set.specs.CpuSet.{member, subset}
 use Rattle.cpu_set.proofs.Laws.{same-members, member-and}
-use Rattle.std.proofs.Common.{rules}
 use Rattle.cpu_set.proofs.is_subset.Goals as goal
 
 implies : (x y : Bool) → beq (x && y) x ≡ (not x || y)

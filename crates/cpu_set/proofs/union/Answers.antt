@@ -2,7 +2,6 @@
 use lib.Bits.{bit_or, or_lt}
 use Rattle.cpu_set.specs.CpuSet.{union}
 use Rattle.cpu_set.proofs.Laws.{equals-set_of, member-or}
-use Rattle.std.proofs.Common.{rules}
 use Rattle.cpu_set.proofs.union.Goals as goal
 
 pub returns : goal.returns

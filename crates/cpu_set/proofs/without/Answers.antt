@@ -4,7 +4,6 @@ use mathlib.Core.Path.{◌≡◌, refl, ap, ◌∙◌}
 use lib.Bits.{bit_and, bit_xor, and_lt, xor_lt}
 use Rattle.cpu_set.specs.CpuSet.{member, without}
 use Rattle.cpu_set.proofs.Laws.{equals-set_of, member-and, member-xor}
-use Rattle.std.proofs.Common.{rules}
 use Rattle.cpu_set.proofs.without.Goals as goal
 
 taken : (x y : Bool) → xor x (x && y) ≡ (x && not y)

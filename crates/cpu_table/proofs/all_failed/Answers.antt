@@ -1,15 +1,11 @@
 -- `cpu_table::all_failed` meets its contract. The loop's invariant: the flag says whether every CPU passed that is in the set
 -- is failed in the table where `also` is. Assumes nothing.
-use Rattle.std.proofs.Common.{◌≡◌, ℕ, ◌-◌, ◌≤◌, Bool, not, ◌||◌, List, set, ap, ◌∙◌, ap₂, arith, rules}
+use Rattle.std.proofs.Common.{◌≡◌, ℕ, ◌-◌, Bool, not, ◌||◌, set, ap, ◌∙◌, ap₂, arith, rules}
 use Rattle.base.specs.Lists.{all, up_to}
 use Rattle.base.proofs.Lists.{all-up_to-turn, all-up_to-none}
-use Rattle.cpu_set.specs.CpuSet.{member}
-use Rattle.machine_state.specs.declared.Cpu.{Cpu}
-use Rattle.machine_state.specs.Machine.{cpu_in}
-use Rattle.rules.specs.Effects.{fail_cpu, all_failed}
+use Rattle.rules.specs.Effects.{all_failed}
 use Rattle.cpu_table.proofs.Laws.{failed-at}
 use Rattle.cpu_table.proofs.all_failed.Invariants.{done}
-use Rattle.std.proofs.Common.{rules}
 use Rattle.cpu_table.proofs.all_failed.Goals as goal
 
 pub loop-i-init : goal.loop-i-init

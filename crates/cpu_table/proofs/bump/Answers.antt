@@ -1,8 +1,7 @@
 -- `cpu_table::bump` meets its contract: the sum wraps as `wrapping_add_u32` does, and there is no counter from 6 up. Assumes nothing.
-use Rattle.std.proofs.Common.{set, sym, ap, arith, rules}
+use Rattle.std.proofs.Common.{set, sym, ap, arith}
 use lib.Seq.{set_out}
 use Rattle.rules.specs.Effects.{bump}
-use Rattle.std.proofs.Common.{rules}
 use Rattle.cpu_table.proofs.bump.Goals as goal
 
 pub returns-then-i-lt6 : goal.returns-then-i-lt6

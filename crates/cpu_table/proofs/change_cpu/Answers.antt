@@ -1,9 +1,8 @@
 -- `cpu_table::change_cpu` meets its contract: each arm is its case of the definition. Assumes nothing.
-use Rattle.std.proofs.Common.{◌≡◌, sym, ap, ◌∙◌, rules}
+use Rattle.std.proofs.Common.{◌≡◌, sym, ap, ◌∙◌}
 use Rattle.machine_state.specs.declared.Cpu.{Cpu}
 use Rattle.cpu_table.specs.CpuTable.{change_of}
 use Rattle.cpu_table.specs.declared.CpuChange.{CpuChange}
-use Rattle.std.proofs.Common.{rules}
 use Rattle.cpu_table.proofs.change_cpu.Goals as goal
 
 abbrev case : (p : Cpu) {how known : CpuChange} → how ≡ known → change_of known p ≡ change_of how p

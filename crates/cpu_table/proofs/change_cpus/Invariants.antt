@@ -1,11 +1,10 @@
 -- `cpu_table::change_cpus` meets its contract. The loop's invariant: the CPUs passed are changed, the others as they were.
 -- Assumes nothing.
-use Rattle.std.proofs.Common.{◌-◌, ◌≤◌, arith, rules}
-use Rattle.base.proofs.Lists.{Mapped, mapped-none, mapped-more, mapped-all}
+use Rattle.std.proofs.Common.{◌-◌, ◌≤◌}
+use Rattle.base.proofs.Lists.{Mapped}
 use Rattle.machine_state.specs.Machine.{past_cpu}
-use Rattle.rules.specs.Effects.{change_in, change_cpus}
+use Rattle.rules.specs.Effects.{change_in}
 use Rattle.cpu_table.specs.CpuTable.{change_of}
-use Rattle.std.proofs.Common.{rules}
 use Rattle.cpu_table.proofs.change_cpus.Given as goal
 
 abbrev pub invariant-loop-i : goal.invariant-loop-i

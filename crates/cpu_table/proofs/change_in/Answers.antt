@@ -1,7 +1,6 @@
 -- `cpu_table::change_in` meets its contract: by whether the CPU is in the set. Assumes nothing.
-use Rattle.std.proofs.Common.{sym, ◌∙◌, rules}
+use Rattle.std.proofs.Common.{sym, ◌∙◌}
 use Rattle.rules.specs.Effects.{change_in}
-use Rattle.std.proofs.Common.{rules}
 use Rattle.cpu_table.proofs.change_in.Goals as goal
 
 pub returns-then-contains : goal.returns-then-contains

@@ -1,7 +1,6 @@
 -- `cpu_table::count_exit` meets its contract: the total first, then the exit's own counter. Assumes nothing.
-use Rattle.std.proofs.Common.{ap, ◌∙◌, rules}
+use Rattle.std.proofs.Common.{ap, ◌∙◌}
 use Rattle.rules.specs.Effects.{count_exit, bump}
-use Rattle.std.proofs.Common.{rules}
 use Rattle.cpu_table.proofs.count_exit.Goals as goal
 
 pub returns : goal.returns

@@ -1,7 +1,6 @@
 -- `cpu_table::cpu_index` meets its contract: a number below the table's size is its own place. Assumes nothing.
-use Rattle.std.proofs.Common.{◌<◌, ◌≤◌, sym, arith, rules}
+use Rattle.std.proofs.Common.{◌<◌, ◌≤◌, sym, arith}
 use Rattle.cpu_table.proofs.Laws.{cpu-inside, cpu-outside}
-use Rattle.std.proofs.Common.{rules}
 use Rattle.cpu_table.proofs.cpu_index.Goals as goal
 
 pub returns-then-cpu : goal.returns-then-cpu

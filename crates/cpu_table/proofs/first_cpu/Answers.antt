@@ -1,12 +1,11 @@
 -- `cpu_table::first_cpu` meets its contract: the bit at the count of trailing zeros is set, and a number with none of its 64 bits set is 0.
 -- Assumes nothing.
-use Rattle.std.proofs.Common.{◌≡◌, ℕ, ◌%◌, ◌^◌, ◌<◌, ◌≤◌, true, false, ◌⊎◌, sym, ap, ◌∙◌, inl, inr, mod-lt, mod-eq_of_lt, arith, rules}
+use Rattle.std.proofs.Common.{◌≡◌, ℕ, ◌%◌, ◌^◌, ◌<◌, ◌≤◌, true, false, ◌⊎◌, sym, ap, ◌∙◌, inl, inr, mod-lt, mod-eq_of_lt, arith}
 use lib.Count.{count_trailing_zeros}
 use Rattle.base.proofs.Tests.{le-or-lt}
 use Rattle.cpu_set.specs.CpuSet.{member, number_of}
 use Rattle.cpu_set.proofs.Laws.{low_bits, member-bit}
 use Rattle.id_set.proofs.Zeros.{trailing-clear, trailing-set}
-use Rattle.std.proofs.Common.{rules}
 use Rattle.cpu_table.proofs.first_cpu.Goals as goal
 
 module _ (a : ℕ) (fits : a < 2 ^ 64) where

@@ -5,7 +5,6 @@ use Rattle.base.proofs.Rules.{rule-holds, rule-passed, no-rule}
 use Rattle.cell_record.specs.CellRecord.{cell_of}
 use Rattle.create_rules.specs.Rows.{use_code}
 use Rattle.create_rules.proofs.Laws.{name-is, busy-is}
-use Rattle.std.proofs.Common.{rules}
 use Rattle.create_rules.proofs.in_use.Goals as goal
 
 pub returns-then-same_name-found : goal.returns-then-same_name-found

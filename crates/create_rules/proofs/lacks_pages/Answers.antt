@@ -1,6 +1,5 @@
 -- `create_rules::lacks_pages` meets its contract, by what is left of the pool. Assumes nothing.
 use Rattle.create_rules.proofs.Laws.{no-pages, pages-left}
-use Rattle.std.proofs.Common.{rules}
 use Rattle.create_rules.proofs.lacks_pages.Goals as goal
 
 pub returns-then-pages-least : goal.returns-then-pages-least

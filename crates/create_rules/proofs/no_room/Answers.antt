@@ -7,7 +7,6 @@ use Rattle.cell_record.specs.CellRecord.{cell_of}
 use Rattle.rules.specs.State.{no_id}
 use Rattle.rules.specs.Create.{no_room}
 use Rattle.rules.specs.Effects.{pool_cost}
-use Rattle.std.proofs.Common.{rules}
 use Rattle.create_rules.proofs.no_room.Goals as goal
 
 pub returns : goal.returns

@@ -8,7 +8,6 @@ use Rattle.system_record.specs.declared.SystemConfig.{SystemConfig}
 use Rattle.cell_record.specs.CellRecord.{cell_of}
 use Rattle.create_rules.specs.Rows.{create_code}
 use Rattle.create_rules.proofs.Laws.{invalid-is, full-code, use-code}
-use Rattle.std.proofs.Common.{rules}
 use Rattle.create_rules.proofs.refusal.Goals as goal
 
 pub returns-then-locked : goal.returns-then-locked

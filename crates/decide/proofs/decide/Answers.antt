@@ -5,7 +5,6 @@ use Rattle.cell_record.specs.CellRecord.{cell_of}
 use Rattle.decide.proofs.Events.{refused-step, obeyed-step, all-passed}
 use mir.Syntax.{w32}
 use mir.Facts.{to_z-of_z}
-use Rattle.std.proofs.Common.{rules}
 use Rattle.decide.proofs.decide.Goals as goal
 
 pub obey-requires : goal.obey-requires

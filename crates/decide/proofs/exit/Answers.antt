@@ -1,6 +1,5 @@
 -- `decide::exit` meets its contract: its CPU counted, and nothing else. Assumes nothing.
 use Rattle.decide.proofs.Laws.{exits}
-use Rattle.std.proofs.Common.{rules}
 use Rattle.decide.proofs.exit.Goals as goal
 
 pub returns : goal.returns

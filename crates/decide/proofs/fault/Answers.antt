@@ -1,6 +1,5 @@
 -- `decide::fault` meets its contract: by what the scan found the cell fails, or nothing more happens. Assumes nothing.
 use Rattle.decide.proofs.Laws.{faults, fails-cell}
-use Rattle.std.proofs.Common.{rules}
 use Rattle.decide.proofs.fault.Goals as goal
 
 pub returns-then-scan-eq0 : goal.returns-then-scan-eq0

@@ -1,6 +1,5 @@
 -- `decide::leave` meets its contract: it is the definition. Assumes nothing.
 use Rattle.decide.proofs.Laws.{leaves}
-use Rattle.std.proofs.Common.{rules}
 use Rattle.decide.proofs.leave.Goals as goal
 
 pub returns : goal.returns

@@ -4,7 +4,6 @@ use Rattle.machine_state.specs.declared.CommRegion.{CommRegion}
 use Rattle.machine_state.specs.declared.Event.{Event}
 use Rattle.machine_state.specs.declared.Waiting.{Waiting}
 use Rattle.decide.specs.Decide.{event_looks}
-use Rattle.std.proofs.Common.{rules}
 use Rattle.decide.proofs.looks.Goals as goal
 
 abbrev case : (w : CommRegion) (call : Waiting) {e known : Event} → e ≡ known → event_looks known w call ≡ event_looks e w call

@@ -7,7 +7,6 @@ use Rattle.decide.proofs.Laws.{settles-as}
 use Rattle.decide.proofs.Events.{at-event, places, calls, call-parts, own-cpu, faulty, polls, all-passed}
 use mir.Syntax.{w32}
 use mir.Facts.{to_z-of_z}
-use Rattle.std.proofs.Common.{rules}
 use Rattle.decide.proofs.obey.Goals as goal
 
 pub store-requires : goal.store-requires

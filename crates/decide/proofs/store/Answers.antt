@@ -1,6 +1,5 @@
 -- `decide::store` meets its contract: the words that the rule names, and its CPU kept. Assumes nothing.
 use Rattle.decide.proofs.Laws.{stores}
-use Rattle.std.proofs.Common.{rules}
 use Rattle.decide.proofs.store.Goals as goal
 
 pub returns : goal.returns

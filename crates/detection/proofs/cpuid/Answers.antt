@@ -1,7 +1,6 @@
 -- `detection::cpuid` meets its contract: each test is one of the definition, in its order. Assumes nothing.
 use borrow.Author.Tests.{eq-eqb, ne_eqb}
 use Rattle.detection.specs.Detection.{cpuid, marked, signature, features}
-use Rattle.std.proofs.Common.{rules}
 use Rattle.detection.proofs.cpuid.Goals as goal
 
 pub returns-then-leaf-eq1 : goal.returns-then-leaf-eq1

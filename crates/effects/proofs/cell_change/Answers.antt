@@ -1,7 +1,6 @@
 -- `effects::cell_change` meets its contract: the tables have a place for each cell. Assumes nothing.
-use Rattle.std.proofs.Common.{rules, le-ltb, lt-ltb}
+use Rattle.std.proofs.Common.{le-ltb, lt-ltb}
 use Rattle.effects.specs.Parts.{within, cell_change}
-use Rattle.std.proofs.Common.{rules}
 use Rattle.effects.proofs.cell_change.Goals as goal
 
 pub returns-then-id-lt-MAX_CELLS : goal.returns-then-id-lt-MAX_CELLS

@@ -1,8 +1,7 @@
 -- `effects::changed_words` meets its contract: each arm is its case of the definition. Assumes nothing.
-use Rattle.std.proofs.Common.{sym, ap, ◌∙◌, rules}
+use Rattle.std.proofs.Common.{sym, ap, ◌∙◌}
 use Rattle.machine_state.specs.declared.CallKind.{CallKind}
 use Rattle.effects.specs.Parts.{words_after}
-use Rattle.std.proofs.Common.{rules}
 use Rattle.effects.proofs.changed_words.Goals as goal
 
 pub returns-in-Disable : goal.returns-in-Disable

@@ -1,9 +1,8 @@
 -- `effects::effect_part` meets its contract: Disable's next part is the lowest live cell or none, every other effect's its own cell. Assumes nothing.
-use Rattle.std.proofs.Common.{ℕ, sym, ◌∙◌, subst, rules}
+use Rattle.std.proofs.Common.{ℕ, sym, ◌∙◌, subst}
 use Rattle.id_set.specs.Ids.{Lowest}
 use Rattle.effects.specs.Applying.{EffectPart}
 use Rattle.effects.proofs.Applying.{own-cell, lowest-cell, none_left}
-use Rattle.std.proofs.Common.{rules}
 use Rattle.effects.proofs.effect_part.Goals as goal
 
 pub returns-then-next-lt-MAX_CELLS : goal.returns-then-next-lt-MAX_CELLS

@@ -1,8 +1,7 @@
 -- `effects::figures_of` meets its contract: each figure is the record's value of that name. Assumes nothing.
-use Rattle.std.proofs.Common.{◌%◌, eqb, rules}
+use Rattle.std.proofs.Common.{◌%◌, eqb}
 use Rattle.cell_record.specs.CellRecord.{cell_of}
 use Rattle.effects.specs.Parts.{figures_of}
-use Rattle.std.proofs.Common.{rules}
 use Rattle.effects.proofs.figures_of.Goals as goal
 
 pub returns : goal.returns

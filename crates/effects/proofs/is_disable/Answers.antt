@@ -1,7 +1,6 @@
 -- `effects::is_disable` meets its contract: each arm is its case of the definition. Assumes nothing.
-use Rattle.std.proofs.Common.{sym, ap, rules}
+use Rattle.std.proofs.Common.{sym, ap}
 use Rattle.effects.specs.Parts.{is_disable}
-use Rattle.std.proofs.Common.{rules}
 use Rattle.effects.proofs.is_disable.Goals as goal
 
 pub returns-in-Disable : goal.returns-in-Disable

@@ -1,7 +1,6 @@
 -- `effects::loadable_words` meets its contract: it is the definition. Assumes nothing.
 use Rattle.std.proofs.Common.{refl}
 use Rattle.rules.specs.Effects.{store_word}
-use Rattle.std.proofs.Common.{rules}
 use Rattle.effects.proofs.loadable_words.Goals as goal
 
 pub returns : goal.returns

@@ -7,7 +7,6 @@ use Rattle.asking.specs.declared.Effect.TheVariants.{Comes}
 use Rattle.effects.specs.declared.Part.{Part}
 use Rattle.effects.specs.declared.Part.TheVariants as Part
 use Rattle.effects.specs.Applying.{OneCell, SwitchedOff, EffectPart, IsNext}
-use Rattle.std.proofs.Common.{rules}
 use Rattle.effects.proofs.next_part.Goals as goal
 
 -- the effect's next part, where it comes

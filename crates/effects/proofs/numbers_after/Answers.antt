@@ -1,5 +1,5 @@
 -- `effects::numbers_after` meets its contract: each arm is its case of the definition, with what its parts ensure. Assumes nothing.
-use Rattle.std.proofs.Common.{◌≡◌, ℕ, true, false, sym, refl, ◌∙◌, ap₂, rules}
+use Rattle.std.proofs.Common.{◌≡◌, ℕ, true, false, sym, refl, ◌∙◌, ap₂}
 use Rattle.machine_state.specs.declared.CallKind.{CallKind}
 use Rattle.rules.specs.State.{root_id}
 use Rattle.cpu_table.specs.declared.CpuChange.TheVariants.{Give}
@@ -7,7 +7,6 @@ use Rattle.effects.specs.declared.Figures.{Figures}
 use Rattle.effects.specs.declared.Target.{Target}
 use Rattle.effects.specs.declared.Numbers.{Numbers}
 use Rattle.effects.specs.Parts.{numbers_after}
-use Rattle.std.proofs.Common.{rules}
 use Rattle.effects.proofs.numbers_after.Goals as goal
 
 module _ (kind : CallKind) (id : ℕ) (t target : Target) (new : Figures) (pool ids root : ℕ) (is : t ≡ target) where

@@ -1,12 +1,11 @@
 -- `effects::rest_of` meets its contract: each arm is its case of the definition. Assumes nothing.
-use Rattle.std.proofs.Common.{◌≡◌, ℕ, true, false, sym, refl, ap, ◌∙◌, rules}
+use Rattle.std.proofs.Common.{◌≡◌, ℕ, true, false, sym, refl, ap, ◌∙◌}
 use Rattle.base.proofs.Tests.{fails}
 use Rattle.machine_state.specs.declared.CallKind.{CallKind}
 use Rattle.machine_state.specs.declared.CallKind.TheVariants.{Disable, Create, Start, SetLoadable, Destroy}
 use Rattle.asking.specs.declared.Effect.TheVariants.{NoEffect, Comes}
 use Rattle.effects.specs.Parts.{is_disable}
 use Rattle.effects.specs.Applying.{rest_of}
-use Rattle.std.proofs.Common.{rules}
 use Rattle.effects.proofs.rest_of.Goals as goal
 
 -- Disable's effect comes back, every other is whole

@@ -1,5 +1,4 @@
 -- `effects::table_sizes` meets its contract: an array has as many elements as its type says. Assumes nothing.
-use Rattle.std.proofs.Common.{rules}
 use Rattle.effects.proofs.table_sizes.Goals as goal
 
 pub returns : goal.returns

@@ -1,7 +1,6 @@
 -- `effects::target_of` meets its contract: the tables have a place for each cell. Assumes nothing.
 use Rattle.std.proofs.Common.{le-ltb, lt-ltb}
 use Rattle.effects.specs.Parts.{within, target_of}
-use Rattle.std.proofs.Common.{rules}
 use Rattle.effects.proofs.target_of.Goals as goal
 
 pub returns-then-id-lt-MAX_CELLS : goal.returns-then-id-lt-MAX_CELLS

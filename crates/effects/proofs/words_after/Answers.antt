@@ -1,7 +1,6 @@
 -- `effects::words_after` meets its contract: the tables have a place for each cell. Assumes nothing.
-use Rattle.std.proofs.Common.{rules, le-ltb, lt-ltb}
+use Rattle.std.proofs.Common.{le-ltb, lt-ltb}
 use Rattle.effects.specs.Parts.{within}
-use Rattle.std.proofs.Common.{rules}
 use Rattle.effects.proofs.words_after.Goals as goal
 
 pub returns-then-id-lt-MAX_CELLS : goal.returns-then-id-lt-MAX_CELLS

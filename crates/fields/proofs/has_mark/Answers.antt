@@ -3,7 +3,6 @@
 use native.Mathlib.Omega.{arith}
 use lib.ListN.{length-take}
 use Rattle.base.proofs.Lists.{same_flag, differ}
-use Rattle.std.proofs.Common.{rules}
 use Rattle.fields.proofs.has_mark.Goals as goal
 
 pub returns-then-s-mark : goal.returns-then-s-mark

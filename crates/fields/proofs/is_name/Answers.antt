@@ -1,7 +1,6 @@
 -- `fields::is_name` meets its contract: what `leading` counts and what `is_zero` tells are the parts of the definition.
 -- Assumes nothing.
 use Rattle.fields.proofs.Laws.{leading_le, name-parts}
-use Rattle.std.proofs.Common.{rules}
 use Rattle.fields.proofs.is_name.Goals as goal
 
 pub slice_bounds-is_zero-count : goal.slice_bounds-is_zero-count

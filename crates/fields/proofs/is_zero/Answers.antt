@@ -1,8 +1,6 @@
 -- `fields::is_zero` meets its contract. The loop's invariant: the flag says whether every byte passed is zero.
 -- The measure is what is left of the length. Assumes nothing.
-use mathlib.Core.Path.{◌≡◌, refl, ap, ◌∙◌}
-use Prim.Native.Nat.{◌≤◌, ◌-◌}
-use lib.ListN.{length, take}
+use mathlib.Core.Path.{refl, ap, ◌∙◌}
 use lib.Seq.{take_all}
 use Rattle.base.specs.Lists.{all}
 use Rattle.base.proofs.Lists.{all-turn, all_none}

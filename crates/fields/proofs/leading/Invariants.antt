@@ -1,12 +1,9 @@
 -- `fields::leading` meets its contract. The loop's invariant: the bytes passed and those 0x21..0x7e that follow make the whole count.
 -- Assumes nothing.
-use mathlib.Core.Path.{◌≡◌, sym, ◌∙◌}
+use mathlib.Core.Path.{◌≡◌}
 use Prim.Native.Nat.{◌≤◌, ◌-◌, ◌+◌}
-use native.Mathlib.Nat.{zero-add}
 use lib.ListN.{length, drop}
 use Rattle.fields.specs.Fields.{leading}
-use Rattle.fields.proofs.Laws.{leading-more, leading-stop, leading_end}
-use Rattle.std.proofs.Common.{rules}
 use Rattle.fields.proofs.leading.Given as goal
 
 abbrev pub invariant-loop-i : goal.invariant-loop-i

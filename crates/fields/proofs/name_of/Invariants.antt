@@ -1,13 +1,8 @@
 -- `fields::name_of` meets its contract. The loop's invariant: the bytes passed are copied. At the end the 32 bytes agree at each place.
 -- Assumes nothing.
-use mathlib.Core.Path.{◌≡◌, refl, ◌∙◌}
+use mathlib.Core.Path.{◌≡◌}
 use Prim.Native.Nat.{ℕ, ◌≤◌, ◌<◌, ◌-◌}
-use native.Mathlib.Omega.{arith}
-use borrow.Author.Count.{below_none, below_more}
-use lib.ListN.{length, get_or, length-set}
-use lib.Seq.{get_or-set_same, get_or-set_other}
-use Rattle.fields.proofs.Laws.{padded-at}
-use Rattle.std.proofs.Common.{rules}
+use lib.ListN.{length, get_or}
 use Rattle.fields.proofs.name_of.Given as goal
 
 abbrev pub invariant-loop-i : goal.invariant-loop-i

@@ -6,7 +6,6 @@ use native.Mathlib.Nat.{add-sub_cancel_left}
 use native.Mathlib.Omega.{arith}
 use lib.ListN.{take, drop}
 use Rattle.base.proofs.Lists.{part-past, part-short}
-use Rattle.std.proofs.Common.{rules}
 use Rattle.fields.proofs.part.Goals as goal
 
 pub returns-then-s-at : goal.returns-then-s-at

@@ -1,6 +1,5 @@
 -- `fields::same_name` meets its contract: `check::same` is true exactly where the two lists are equal. Assumes nothing.
 use Rattle.base.proofs.Lists.{same_flag}
-use Rattle.std.proofs.Common.{rules}
 use Rattle.fields.proofs.same_name.Goals as goal
 
 pub returns : goal.returns

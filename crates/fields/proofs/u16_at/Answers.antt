@@ -2,7 +2,6 @@
 -- Assumes nothing.
 use mathlib.Core.Path.{sym, ◌∙◌}
 use Rattle.fields.proofs.Laws.{field-halves, field-byte, field_past}
-use Rattle.std.proofs.Common.{rules}
 use Rattle.fields.proofs.u16_at.Goals as goal
 
 pub returns-then-s-at : goal.returns-then-s-at

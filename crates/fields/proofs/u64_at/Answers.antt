@@ -1,6 +1,5 @@
 -- `fields::u64_at` meets its contract: a field of 8 bytes is its two halves (`field-halves`). Assumes nothing.
 use Rattle.fields.proofs.Laws.{field-halves, field_past}
-use Rattle.std.proofs.Common.{rules}
 use Rattle.fields.proofs.u64_at.Goals as goal
 
 pub returns-then-s-at : goal.returns-then-s-at

@@ -1,7 +1,6 @@
 -- `fields::u8_at` meets its contract: past the end `get_or` gives its default, 0. Assumes nothing.
 use mathlib.Core.Path.{sym}
 use lib.ListN.{get_or-eq_default}
-use Rattle.std.proofs.Common.{rules}
 use Rattle.fields.proofs.u8_at.Goals as goal
 
 pub returns-else-at-s : goal.returns-else-at-s

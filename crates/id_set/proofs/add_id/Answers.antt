@@ -2,7 +2,6 @@
 use mathlib.Core.Path.{ap, ◌∙◌}
 use Prim.Native.Nat.{ℕ, ◌%◌, ◌^◌}
 use Rattle.id_set.proofs.Ids.{added}
-use Rattle.std.proofs.Common.{rules}
 use Rattle.id_set.proofs.add_id.Goals as goal
 
 pub returns : goal.returns

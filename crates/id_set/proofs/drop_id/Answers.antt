@@ -2,7 +2,6 @@
 use mathlib.Core.Path.{ap, ◌∙◌}
 use Prim.Native.Nat.{ℕ, ◌%◌, ◌^◌}
 use Rattle.id_set.proofs.Ids.{dropped}
-use Rattle.std.proofs.Common.{rules}
 use Rattle.id_set.proofs.drop_id.Goals as goal
 
 pub returns : goal.returns

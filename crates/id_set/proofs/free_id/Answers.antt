@@ -14,7 +14,6 @@ use Rattle.rules.specs.Create.{free_id}
 use Rattle.id_set.proofs.Ids.{free-bit}
 use Rattle.id_set.proofs.Laws.{first-is}
 use Rattle.id_set.proofs.Zeros.{trailing-clear, trailing-set}
-use Rattle.std.proofs.Common.{rules}
 use Rattle.id_set.proofs.free_id.Goals as goal
 
 module _ (ids : ℕ) (fits : ids < 2 ^ 16) where

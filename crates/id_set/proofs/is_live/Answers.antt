@@ -1,7 +1,6 @@
 -- `id_set::is_live` meets its contract: no cell has an ID from 16 up, and below it is the ID's bit. Assumes nothing.
 use borrow.Author.Tests.{lt-ltb, le-ltb}
 use Rattle.rules.specs.State.{has_id}
-use Rattle.std.proofs.Common.{rules}
 use Rattle.id_set.proofs.is_live.Goals as goal
 
 pub returns-then-id-ge16 : goal.returns-then-id-ge16

@@ -13,7 +13,6 @@ use Rattle.id_set.specs.Ids.{Lowest}
 use Rattle.id_set.proofs.Ids.{has-bit, no-ids}
 use Rattle.id_set.proofs.Laws.{first-is}
 use Rattle.id_set.proofs.Zeros.{trailing-clear, trailing-set}
-use Rattle.std.proofs.Common.{rules}
 use Rattle.id_set.proofs.lowest.Goals as goal
 
 module _ (ids : ℕ) (fits : ids < 2 ^ 16) where

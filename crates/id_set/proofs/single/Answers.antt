@@ -7,7 +7,6 @@ use lib.Pow.{shl_exact}
 use borrow.Author.Tests.{ne_eqb}
 use Rattle.cpu_set.specs.CpuSet.{member}
 use Rattle.id_set.proofs.Ids.{power-member, zero-member}
-use Rattle.std.proofs.Common.{rules}
 use Rattle.id_set.proofs.single.Goals as goal
 
 power : (k : ℕ) → k < 64 → (1 * 2 ^ k) % 2 ^ 64 ≡ 2 ^ k

@@ -2,12 +2,10 @@
 -- the event and the HEX. Assumes nothing.
 use Prim.Native.Nat.{zero-le}
 use native.Mathlib.Numerals.{add-one-le}
-use native.Mathlib.Omega.{arith}
 use Rattle.lines.proofs.WordLaws.{next_fits, start-le, end-le, word_more, word-last, then, some_word}
 use Rattle.lines.proofs.EventLaws.{six-words}
 use Rattle.lines.proofs.RecordLaws.{one-word-only, two-words-only, more-words}
 use Rattle.lines.proofs.CutLaws.{cut-plain, cut-long, cut-three}
-use Rattle.std.proofs.Common.{rules}
 use Rattle.lines.proofs.cut_line.Goals as goal
 
 pub returns-then-line-gt-MAX_LINE : goal.returns-then-line-gt-MAX_LINE

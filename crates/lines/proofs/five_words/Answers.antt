@@ -1,7 +1,6 @@
 -- `lines::five_words` meets its contract: it is the definition (`call-said`). Assumes nothing.
 use mathlib.Core.Path.{◌∙◌}
 use Rattle.lines.proofs.EventLaws.{passed, refused, call-said}
-use Rattle.std.proofs.Common.{rules}
 use Rattle.lines.proofs.five_words.Goals as goal
 
 pub returns-then-is_word-cpu : goal.returns-then-is_word-cpu

@@ -1,7 +1,6 @@
 -- `lines::four_words` meets its contract: it is the definition (`store_said`). Assumes nothing.
 use mathlib.Core.Path.{◌∙◌}
 use Rattle.lines.proofs.EventLaws.{passed, refused, store_said}
-use Rattle.std.proofs.Common.{rules}
 use Rattle.lines.proofs.four_words.Goals as goal
 
 pub returns-then-is_word-cpu : goal.returns-then-is_word-cpu

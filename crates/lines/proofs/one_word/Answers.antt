@@ -1,7 +1,6 @@
 -- `lines::one_word` meets its contract: it is the definition (`poll-said`). Assumes nothing.
 use mathlib.Core.Path.{◌∙◌}
 use Rattle.lines.proofs.EventLaws.{passed, refused, poll-said}
-use Rattle.std.proofs.Common.{rules}
 use Rattle.lines.proofs.one_word.Goals as goal
 
 pub returns-then-is_word : goal.returns-then-is_word

@@ -4,7 +4,6 @@ use mathlib.Core.List.{List, ◌++◌}
 use Prim.Native.Nat.{ℕ, min}
 use lib.ListN.{length, take, drop}
 use Rattle.lines.proofs.RecordLaws.{hex-pairs, hex-record}
-use Rattle.std.proofs.Common.{rules}
 use Rattle.lines.proofs.read_line.Goals as goal
 
 pub decode-len-requires : goal.decode-len-requires

@@ -1,7 +1,6 @@
 -- `lines::three_words` meets its contract: it is the definition (`create-exit-said`), and the test of a `create` line. Assumes nothing.
 use mathlib.Core.Path.{refl, sym, ◌∙◌}
 use Rattle.lines.proofs.EventLaws.{passed, refused, create-exit-said, create-test}
-use Rattle.std.proofs.Common.{rules}
 use Rattle.lines.proofs.three_words.Goals as goal
 
 pub returns-then-is_word-cpu : goal.returns-then-is_word-cpu

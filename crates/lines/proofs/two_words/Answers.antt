@@ -1,7 +1,6 @@
 -- `lines::two_words` meets its contract: it is the definition (`fault-said`). Assumes nothing.
 use mathlib.Core.Path.{◌∙◌}
 use Rattle.lines.proofs.EventLaws.{passed, refused, fault-said}
-use Rattle.std.proofs.Common.{rules}
 use Rattle.lines.proofs.two_words.Goals as goal
 
 pub returns-then-is_word-cpu : goal.returns-then-is_word-cpu

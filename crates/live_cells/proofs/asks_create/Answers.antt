@@ -2,7 +2,6 @@
 use mathlib.Core.Path.{◌≡◌, sym, ap}
 use Rattle.machine_state.specs.declared.Event.{Event}
 use Rattle.live_cells.specs.Looks.{asks_create}
-use Rattle.std.proofs.Common.{rules}
 use Rattle.live_cells.proofs.asks_create.Goals as goal
 
 abbrev case : {e known : Event} → e ≡ known → asks_create known ≡ asks_create e

@@ -2,7 +2,6 @@
 use mathlib.Core.Bool.{not, ◌&&◌}
 use Rattle.regions.specs.Regions.{overlap_phys}
 use Rattle.rules.specs.Create.{conflict}
-use Rattle.std.proofs.Common.{rules}
 use Rattle.live_cells.proofs.conflict.Goals as goal
 
 pub returns : goal.returns

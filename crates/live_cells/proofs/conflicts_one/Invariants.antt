@@ -1,16 +1,12 @@
 -- `live_cells::conflicts_one` meets its contract. The loop's invariant: the flag says whether a region passed is in conflict with s. The array has
 -- as many elements as places, so the loop passes those that the count names. Assumes nothing.
-use mathlib.Core.Path.{◌≡◌, ap, ◌∙◌}
+use mathlib.Core.Path.{◌≡◌}
 use mathlib.Core.Bool.{Bool}
 use Prim.Native.Nat.{◌≤◌, ◌-◌}
-use native.Mathlib.Omega.{arith}
-use lib.ListN.{length, take}
+use lib.ListN.{take}
 use Rattle.base.specs.Lists.{any}
-use Rattle.base.proofs.Lists.{any_none, any-turn, take-used}
 use Rattle.regions.specs.declared.MemRegion.{MemRegion}
-use Rattle.region_table.specs.Tables.{max_regions}
 use Rattle.rules.specs.Create.{conflict}
-use Rattle.std.proofs.Common.{rules}
 use Rattle.live_cells.proofs.conflicts_one.Given as goal
 
 abbrev pub meeting : MemRegion → MemRegion → Bool

@@ -1,7 +1,6 @@
 -- `live_cells::has_name` meets its contract: it compares the two names. Assumes nothing.
 use mathlib.Core.Path.{ap, ◌∙◌}
 use Rattle.base.specs.Lists.{same}
-use Rattle.std.proofs.Common.{rules}
 use Rattle.live_cells.proofs.has_name.Goals as goal
 
 pub returns : goal.returns

@@ -2,7 +2,6 @@
 use mathlib.Core.Path.{ap}
 use mathlib.Core.Bool.{Bool, ◌||◌}
 use Rattle.live_cells.specs.Looks.{together, looked_at}
-use Rattle.std.proofs.Common.{rules}
 use Rattle.live_cells.proofs.look.Goals as goal
 
 pub returns : goal.returns

@@ -1,13 +1,10 @@
 -- `live_cells::meets` meets its contract. The loop's invariant: the flag says whether a region of the record that was passed is in conflict with
 -- one of the cell's. Whichever of the two is looked at first, the same pairs are. Assumes nothing.
 use mathlib.Core.Path.{◌≡◌, sym, ap, ◌∙◌}
-use mathlib.Core.Bool.{Bool}
-use mathlib.Core.List.{List}
-use Prim.Native.Nat.{ℕ, ◌≤◌, ◌-◌}
+use Prim.Native.Nat.{ℕ, ◌-◌}
 use native.Mathlib.Omega.{arith}
 use lib.ListN.{take}
 use Rattle.base.specs.Lists.{any}
-use Rattle.regions.specs.declared.MemRegion.{MemRegion}
 use Rattle.region_table.specs.Tables.{regions_of}
 use Rattle.region_table.proofs.Laws.{any-no-region, any-regions}
 use Rattle.cell_record.specs.CellRecord.{cell_of, cell_regions}
@@ -22,12 +19,11 @@ pub loop-i-init : goal.loop-i-init
 loop-i-init c = (search rules, any-no-region _ _ _)
 
 pub loop-i-preserved : goal.loop-i-preserved
-loop-i-preserved c =
-    (
-      search rules,
-      any-regions _ _ c.loop-i.i (met_by (take c.args.c.region_count c.args.c.regions)) _ _ c.loop-i.invariant.1
-          (c.conflicts_one-found.ensures ∙ ap (met_by (take c.args.c.region_count c.args.c.regions)) c.region.ensures),
-    )
+loop-i-preserved c = (
+  search rules,
+  any-regions _ _ c.loop-i.i (met_by (take c.args.c.region_count c.args.c.regions)) _ _ c.loop-i.invariant.1
+      (c.conflicts_one-found.ensures ∙ ap (met_by (take c.args.c.region_count c.args.c.regions)) c.region.ensures),
+)
 
 pub returns : goal.returns
 unfolding conflicts

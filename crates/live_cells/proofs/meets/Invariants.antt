@@ -1,20 +1,14 @@
 -- `live_cells::meets` meets its contract. The loop's invariant: the flag says whether a region of the record that was passed is in conflict with
 -- one of the cell's. Whichever of the two is looked at first, the same pairs are. Assumes nothing.
-use mathlib.Core.Path.{◌≡◌, sym, ap, ◌∙◌}
+use mathlib.Core.Path.{◌≡◌}
 use mathlib.Core.Bool.{Bool}
 use mathlib.Core.List.{List}
-use Prim.Native.Nat.{ℕ, ◌≤◌, ◌-◌}
-use native.Mathlib.Omega.{arith}
+use Prim.Native.Nat.{◌≤◌, ◌-◌}
 use lib.ListN.{take}
 use Rattle.base.specs.Lists.{any}
 use Rattle.regions.specs.declared.MemRegion.{MemRegion}
 use Rattle.region_table.specs.Tables.{regions_of}
-use Rattle.region_table.proofs.Laws.{any-no-region, any-regions}
-use Rattle.cell_record.specs.CellRecord.{cell_of, cell_regions}
-use Rattle.cell_record.proofs.Laws.{record-regions}
-use Rattle.rules.specs.Create.{conflict, conflicts}
-use Rattle.live_cells.proofs.Pairs.{any-exchange}
-use Rattle.std.proofs.Common.{rules}
+use Rattle.rules.specs.Create.{conflict}
 use Rattle.live_cells.proofs.meets.Given as goal
 
 abbrev pub met_by : List MemRegion → MemRegion → Bool

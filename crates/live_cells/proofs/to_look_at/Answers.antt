@@ -1,7 +1,6 @@
 -- `live_cells::to_look_at` meets its contract: by whether the event is a Create. Assumes nothing.
 use mathlib.Core.Path.{sym, ◌∙◌}
 use Rattle.live_cells.specs.Looks.{to_look_at}
-use Rattle.std.proofs.Common.{rules}
 use Rattle.live_cells.proofs.to_look_at.Goals as goal
 
 pub returns-then-asks_create : goal.returns-then-asks_create

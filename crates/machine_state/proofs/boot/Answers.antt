@@ -6,7 +6,6 @@ use mir.Syntax.{w32}
 use mir.Val.{to_z, of_z}
 use mir.Facts.{to_z-of_z}
 use Rattle.machine_state.proofs.Laws.{booted, power-on, power-off}
-use Rattle.std.proofs.Common.{rules}
 use Rattle.machine_state.proofs.boot.Goals as goal
 
 pub returns-then-code-eq0 : goal.returns-then-code-eq0

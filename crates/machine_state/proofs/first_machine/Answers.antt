@@ -2,7 +2,6 @@
 use lib.ListN.{replicate}
 use Rattle.machine_state.specs.declared.Waiting.TheVariants.{NoCall}
 use Rattle.machine_state.specs.Machine.{first_machine, max_cells, max_cpus}
-use Rattle.std.proofs.Common.{rules}
 use Rattle.machine_state.proofs.first_machine.Goals as goal
 
 pub returns : goal.returns

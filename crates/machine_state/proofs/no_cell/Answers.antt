@@ -3,7 +3,6 @@ use lib.ListN.{replicate}
 use Rattle.region_table.specs.Tables.{max_regions}
 use Rattle.machine_state.specs.declared.Phase.TheVariants.{Suspended}
 use Rattle.machine_state.specs.Machine.{no_cell}
-use Rattle.std.proofs.Common.{rules}
 use Rattle.machine_state.proofs.no_cell.Goals as goal
 
 pub returns : goal.returns

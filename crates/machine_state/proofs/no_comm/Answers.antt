@@ -1,7 +1,6 @@
 -- `machine_state::no_comm` meets its contract: it is the definition. Assumes nothing.
 use mathlib.Core.Path.{refl}
 use Rattle.machine_state.specs.Machine.{no_comm}
-use Rattle.std.proofs.Common.{rules}
 use Rattle.machine_state.proofs.no_comm.Goals as goal
 
 pub returns : goal.returns

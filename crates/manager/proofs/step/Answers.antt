@@ -5,7 +5,6 @@ use mir.Facts.{to_z-of_z}
 use Rattle.rules.specs.State.{with_cpus, with_comm, answered}
 use Rattle.decide.proofs.Shell.{sets-there, scan-parts, all-parts}
 use Rattle.manager.proofs.Laws.{applied}
-use Rattle.std.proofs.Common.{rules}
 use Rattle.manager.proofs.step.Goals as goal
 
 pub returns : goal.returns

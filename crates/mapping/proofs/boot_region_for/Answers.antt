@@ -1,9 +1,7 @@
 -- `mapping::boot_region_for` meets its contract. The loop's invariant: the region wanted is the first one that has the page among those not
 -- passed. Assumes nothing.
-use mathlib.Core.Path.{◌≡◌, refl, sym, ◌∙◌}
-use Prim.Native.Nat.{◌≤◌, ◌-◌}
-use lib.ListN.{take, drop}
-use Rattle.rules.specs.Pages.{region_for}
+use mathlib.Core.Path.{refl, sym, ◌∙◌}
+use Prim.Native.Nat.{◌-◌}
 use Rattle.mapping.proofs.Laws.{region-here, region-next, region-none}
 use Rattle.std.proofs.Common.{rules}
 use Rattle.mapping.proofs.boot_region_for.Goals as goal
@@ -18,13 +16,12 @@ returns-then-has_virt c =
     ∙ sym c.loop-i.invariant.1
 
 pub loop-i-preserved : goal.loop-i-preserved
-loop-i-preserved c =
-    (
-      search rules,
-      c.loop-i.invariant.1
-          ∙ region-next c.args.page c.args.table _ _ _ c.well_formed.0.1.0.1 c.used-n.ensures c.loop-i.i _ c.loop-i-test.true
-          (sym c.has_virt.ensures ∙ c.if-has_virt.false),
-    )
+loop-i-preserved c = (
+  search rules,
+  c.loop-i.invariant.1
+      ∙ region-next c.args.page c.args.table _ _ _ c.well_formed.0.1.0.1 c.used-n.ensures c.loop-i.i _ c.loop-i-test.true
+      (sym c.has_virt.ensures ∙ c.if-has_virt.false),
+)
 
 pub returns : goal.returns
 returns c =

@@ -1,11 +1,9 @@
 -- `mapping::boot_region_for` meets its contract. The loop's invariant: the region wanted is the first one that has the page among those not
 -- passed. Assumes nothing.
-use mathlib.Core.Path.{◌≡◌, refl, sym, ◌∙◌}
+use mathlib.Core.Path.{◌≡◌}
 use Prim.Native.Nat.{◌≤◌, ◌-◌}
 use lib.ListN.{take, drop}
 use Rattle.rules.specs.Pages.{region_for}
-use Rattle.mapping.proofs.Laws.{region-here, region-next, region-none}
-use Rattle.std.proofs.Common.{rules}
 use Rattle.mapping.proofs.boot_region_for.Given as goal
 
 abbrev pub invariant-loop-i : goal.invariant-loop-i

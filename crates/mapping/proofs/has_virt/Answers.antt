@@ -1,6 +1,5 @@
 -- `mapping::has_virt` meets its contract: it is the definition, with what `has_page` ensures. Assumes nothing.
 use Rattle.rules.specs.Pages.{has_virt}
-use Rattle.std.proofs.Common.{rules}
 use Rattle.mapping.proofs.has_virt.Goals as goal
 
 pub returns : goal.returns

@@ -2,7 +2,6 @@
 use mathlib.Core.Path.{sym, ap, ◌∙◌}
 use Rattle.machine_state.specs.declared.Mapping.{Mapping}
 use Rattle.rules.specs.Pages.{if_touchable}
-use Rattle.std.proofs.Common.{rules}
 use Rattle.mapping.proofs.if_touchable.Goals as goal
 
 pub returns-then-root_may_touch : goal.returns-then-root_may_touch

@@ -7,7 +7,6 @@ use borrow.Author.Tests.{eq-eqb, ne_eqb, not-true, not-false}
 use Rattle.base.proofs.Rules.{rule-holds, rule-passed, no-rule}
 use Rattle.rules.specs.Pages.{mapping_of}
 use Rattle.pages.proofs.Laws.{live-place, place-fits}
-use Rattle.std.proofs.Common.{rules}
 use Rattle.mapping.proofs.mapping_of.Goals as goal
 
 pub returns-then-not-has_booted : goal.returns-then-not-has_booted

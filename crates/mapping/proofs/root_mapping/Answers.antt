@@ -2,7 +2,6 @@
 use mathlib.Core.Path.{ap, ◌∙◌}
 use Rattle.regions.specs.declared.MemRegion.{MemRegion}
 use Rattle.rules.specs.Pages.{mapped_by, cell_mapping, if_touchable, root_mapping}
-use Rattle.std.proofs.Common.{rules}
 use Rattle.mapping.proofs.root_mapping.Goals as goal
 
 pub returns : goal.returns

@@ -2,7 +2,6 @@
 use mathlib.Core.Path.{ap, ◌∙◌}
 use Rattle.regions.specs.declared.MemRegion.{MemRegion}
 use Rattle.rules.specs.Pages.{mapped_by, cell_mapping}
-use Rattle.std.proofs.Common.{rules}
 use Rattle.mapping.proofs.table_mapping.Goals as goal
 
 pub returns : goal.returns

@@ -7,7 +7,6 @@ use Rattle.rules.specs.Pages.{mapped_by, has_virt, phys_of}
 use Rattle.mapping.proofs.Laws.{page-small, page-starts, page-sum}
 use mathlib.Core.Path.{ap}
 use mathlib.Core.Bool.{not}
-use Rattle.std.proofs.Common.{rules}
 use Rattle.mapping.proofs.translate.Goals as goal
 
 pub returns-then-not-has_virt : goal.returns-then-not-has_virt

@@ -1,6 +1,5 @@
 -- `pages::boot_has` meets its contract: it is the definition. Assumes nothing.
 use Rattle.rules.specs.Pages.{boot_has}
-use Rattle.std.proofs.Common.{rules}
 use Rattle.pages.proofs.boot_has.Goals as goal
 
 pub returns : goal.returns

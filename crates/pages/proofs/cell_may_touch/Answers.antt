@@ -3,7 +3,6 @@ use lib.Dec.{lit<}
 use Rattle.pages.proofs.Laws.{absent-touches, live-touches, live-place, place-fits}
 use mathlib.Core.Path.{ap}
 use mathlib.Core.Bool.{not}
-use Rattle.std.proofs.Common.{rules}
 use Rattle.pages.proofs.cell_may_touch.Goals as goal
 
 pub returns-then-not-is_live : goal.returns-then-not-is_live

@@ -4,7 +4,6 @@ use Rattle.base.specs.Rules.{first_rule}
 use Rattle.pages.specs.Seen.{owner_by}
 use mathlib.Core.Path.{ap}
 use mathlib.Core.Bool.{not}
-use Rattle.std.proofs.Common.{rules}
 use Rattle.pages.proofs.first_owner.Goals as goal
 
 pub returns-then-not-booted : goal.returns-then-not-booted

@@ -2,7 +2,6 @@
 use mathlib.Core.Path.{sym, ap}
 use Rattle.machine_state.specs.declared.Power.{Power}
 use Rattle.rules.specs.Pages.{has_booted}
-use Rattle.std.proofs.Common.{rules}
 use Rattle.pages.proofs.has_booted.Goals as goal
 
 pub returns-in-Unbooted : goal.returns-in-Unbooted

@@ -2,7 +2,6 @@
 use Prim.Native.Nat.{◌^◌, ◌≤◌}
 use native.Mathlib.Omega.{arith}
 use Rattle.pages.proofs.Laws.{page-past, page-before, page-from}
-use Rattle.std.proofs.Common.{rules}
 use Rattle.pages.proofs.has_page.Goals as goal
 
 pub returns-then-n-ge68719476736 : goal.returns-then-n-ge68719476736

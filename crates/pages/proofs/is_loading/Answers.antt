@@ -1,7 +1,6 @@
 -- `pages::is_loading` meets its contract: each arm is its case of the definition. Assumes nothing.
 use mathlib.Core.Path.{sym, ap}
 use Rattle.rules.specs.Pages.{is_loading}
-use Rattle.std.proofs.Common.{rules}
 use Rattle.pages.proofs.is_loading.Goals as goal
 
 pub returns-in-Suspended : goal.returns-in-Suspended

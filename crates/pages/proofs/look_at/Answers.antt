@@ -1,11 +1,10 @@
 -- `pages::look_at` meets its contract. The loop's invariant: the flags say of the regions passed what the sight says of all. The array has as
 -- many elements as places, so the loop passes those that the count names. Assumes nothing.
 use mathlib.Core.Path.{refl}
-use Prim.Native.Nat.{◌≤◌, ◌<◌, ◌-◌}
+use Prim.Native.Nat.{◌<◌, ◌-◌}
 use native.Mathlib.Omega.{arith}
-use lib.ListN.{take, length}
+use lib.ListN.{length}
 use Rattle.base.proofs.Lists.{take-used}
-use Rattle.pages.specs.Seen.{Sees}
 use Rattle.pages.proofs.Laws.{sees-none, sees_more, sees-all}
 use Rattle.std.proofs.Common.{rules}
 use Rattle.pages.proofs.look_at.Goals as goal

@@ -1,10 +1,8 @@
 -- `pages::look_at_cells` meets its contract. The loop's invariant: what is found is found of the cells from i up. Assumes nothing.
-use Prim.Native.Nat.{◌≤◌, ◌<◌}
-use native.Mathlib.Omega.{arith}
+use Prim.Native.Nat.{◌≤◌}
 use mathlib.Core.Path.{◌≡◌}
 use Rattle.machine_state.specs.declared.Machine.{Machine}
-use Rattle.pages.proofs.Laws.{FoundFrom, found_none, found-more, found-owner, found_all}
-use Rattle.std.proofs.Common.{rules}
+use Rattle.pages.proofs.Laws.{FoundFrom}
 use Rattle.pages.proofs.look_at_cells.Given as goal
 
 abbrev pub invariant-loop-i : goal.invariant-loop-i

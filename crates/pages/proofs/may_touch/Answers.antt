@@ -1,8 +1,6 @@
 -- `pages::may_touch` meets its contract: root, or another cell. Assumes nothing.
-use mathlib.Core.Path.{◌∙◌}
 use borrow.Author.Tests.{eq-eqb, ne_eqb}
 use Rattle.rules.specs.Pages.{may_touch}
-use Rattle.std.proofs.Common.{rules}
 use Rattle.pages.proofs.may_touch.Goals as goal
 
 pub returns-then-id-eq0 : goal.returns-then-id-eq0

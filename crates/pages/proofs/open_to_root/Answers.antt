@@ -2,7 +2,6 @@
 use mathlib.Core.Path.{sym, ap}
 use Rattle.machine_state.specs.declared.Owner.{Owner}
 use Rattle.rules.specs.Pages.{open_to_root}
-use Rattle.std.proofs.Common.{rules}
 use Rattle.pages.proofs.open_to_root.Goals as goal
 
 pub returns-in-Hypervisor : goal.returns-in-Hypervisor

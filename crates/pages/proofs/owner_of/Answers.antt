@@ -1,7 +1,6 @@
 -- `pages::owner_of` meets its contract: the table of owners, by what is found for each row. Assumes nothing.
 use mathlib.Core.Path.{refl, ◌∙◌}
 use Rattle.pages.proofs.Laws.{owner-is}
-use Rattle.std.proofs.Common.{rules}
 use Rattle.pages.proofs.owner_of.Goals as goal
 
 pub returns : goal.returns

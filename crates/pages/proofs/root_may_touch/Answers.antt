@@ -1,7 +1,6 @@
 -- `pages::root_may_touch` meets its contract: it is the definition, with what its parts ensure. Assumes nothing.
 use mathlib.Core.Path.{refl}
 use Rattle.pages.proofs.Laws.{root-touches}
-use Rattle.std.proofs.Common.{rules}
 use Rattle.pages.proofs.root_may_touch.Goals as goal
 
 pub returns : goal.returns

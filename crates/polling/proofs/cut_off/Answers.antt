@@ -1,6 +1,5 @@
 -- `polling::cut_off` meets its contract: the cell's words, failed, the sets without it, and what is heard from them. Assumes nothing.
 use Rattle.polling.proofs.Laws.{cuts}
-use Rattle.std.proofs.Common.{rules}
 use Rattle.polling.proofs.cut_off.Goals as goal
 
 pub returns : goal.returns

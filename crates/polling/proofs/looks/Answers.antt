@@ -2,7 +2,6 @@
 use mathlib.Core.Bool.{Bool, ◌||◌}
 use mathlib.Core.Path.{sym, ap, ap₂, ◌∙◌}
 use Rattle.polling.specs.Polls.{poll_looks}
-use Rattle.std.proofs.Common.{rules}
 use Rattle.polling.proofs.looks.Goals as goal
 
 pub returns-in-NoCall : goal.returns-in-NoCall

@@ -4,7 +4,6 @@ use Rattle.machine_state.specs.declared.Waiting.{Waiting}
 use Rattle.rules.specs.Asking.{poll}
 use Rattle.asking.proofs.Laws.{moves-as}
 use Rattle.polling.proofs.Laws.{moves-uncut, poll-as}
-use Rattle.std.proofs.Common.{rules}
 use Rattle.polling.proofs.poll.Goals as goal
 
 pub returns-in-NoCall : goal.returns-in-NoCall

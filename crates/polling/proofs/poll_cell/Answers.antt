@@ -3,7 +3,6 @@ use mathlib.Core.Path.{sym, ◌∙◌}
 use Rattle.unobeyed.specs.Admission.{waited_cell}
 use Rattle.asking.proofs.Laws.{moves-as}
 use Rattle.polling.proofs.Laws.{moves-uncut, looks-heard, polled-heard, polled-silent, polled-past, inside-words}
-use Rattle.std.proofs.Common.{rules}
 use Rattle.polling.proofs.poll_cell.Goals as goal
 
 pub returns-then-cell-ge-MAX_CELLS : goal.returns-then-cell-ge-MAX_CELLS

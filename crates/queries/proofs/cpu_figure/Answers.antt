@@ -4,7 +4,6 @@ use mathlib.Core.Bool.{not}
 use borrow.Author.Tests.{eq-eqb, ne_eqb}
 use Rattle.rules.specs.Queries.{cpu_get_info}
 use Rattle.queries.proofs.Laws.{answers, passes, none_left, between, foreign-row, works-row, counter-of}
-use Rattle.std.proofs.Common.{rules}
 use Rattle.queries.proofs.cpu_figure.Goals as goal
 
 pub counter-requires : goal.counter-requires

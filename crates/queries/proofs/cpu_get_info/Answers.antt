@@ -6,7 +6,6 @@ use Rattle.rules.specs.Effects.{counted, call_counter}
 use Rattle.rules.specs.Queries.{cpu_get_info}
 use Rattle.queries.proofs.Laws.{answers, unlisted-row, in-table, listed, caller-counted, asked-counted}
 use mathlib.Core.Bool.{not}
-use Rattle.std.proofs.Common.{rules}
 use Rattle.queries.proofs.cpu_get_info.Goals as goal
 
 pub returns-then-not-contains : goal.returns-then-not-contains

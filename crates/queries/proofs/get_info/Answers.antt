@@ -8,7 +8,6 @@ use Rattle.machine_state.specs.declared.Answer.{Answer}
 use Rattle.machine_state.specs.declared.Answer.TheVariants.{Code}
 use Rattle.rules.specs.Queries.{low31, get_info}
 use Rattle.queries.proofs.Laws.{answers, passes, none_left}
-use Rattle.std.proofs.Common.{rules}
 use Rattle.queries.proofs.get_info.Goals as goal
 
 abbrev figure : ℕ → Answer

@@ -8,7 +8,6 @@ use Rattle.rules.specs.State.{running, running_locked, shut_down, failed}
 use Rattle.rules.specs.Queries.{get_state}
 use Rattle.queries.proofs.Laws.{answers, passes, none_left, live-row, live-is, state-is}
 use mathlib.Core.Bool.{not}
-use Rattle.std.proofs.Common.{rules}
 use Rattle.queries.proofs.get_state.Goals as goal
 
 abbrev runs : ℕ → Bool

@@ -6,7 +6,6 @@ use lib.IntN.{pos}
 use mir.Syntax.{w32}
 use mir.Facts.{to_z-of_z}
 use Rattle.machine_state.specs.declared.Answer.TheVariants.{Code}
-use Rattle.std.proofs.Common.{rules}
 use Rattle.queries.proofs.low31.Goals as goal
 
 pub returns : goal.returns

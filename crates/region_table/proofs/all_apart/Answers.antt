@@ -1,7 +1,7 @@
 -- `region_table::all_apart` meets its contract. The loop's invariant: the flag says whether every two regions passed are apart.
 -- Assumes nothing.
 use mathlib.Core.Path.{◌≡◌, ap, ◌∙◌}
-use Prim.Native.Nat.{ℕ, ◌≤◌, ◌-◌}
+use Prim.Native.Nat.{ℕ, ◌-◌}
 use native.Mathlib.Omega.{arith}
 use Rattle.base.specs.Lists.{all, pairwise}
 use Rattle.regions.specs.declared.MemRegion.{MemRegion}
@@ -16,12 +16,11 @@ loop-i-init c = (search rules, pairwise-no-region _ _ _)
 
 pub loop-i-preserved : goal.loop-i-preserved
 unfolding region_at
-loop-i-preserved c =
-    (
-      search rules,
-      pairwise-regions _ _ c.loop-i.i apart _ _ c.loop-i.invariant.1
-          (c.apart_from-ok.ensures ∙ ap (λ (r : MemRegion). all (λ x. apart x r) (regions_of c.args.base c.loop-i.i c.args.s.now)) c.region_at-r.ensures),
-    )
+loop-i-preserved c = (
+  search rules,
+  pairwise-regions _ _ c.loop-i.i apart _ _ c.loop-i.invariant.1
+      (c.apart_from-ok.ensures ∙ ap (λ (r : MemRegion). all (λ x. apart x r) (regions_of c.args.base c.loop-i.i c.args.s.now)) c.region_at-r.ensures),
+)
 
 pub returns : goal.returns
 returns c =

@@ -1,14 +1,10 @@
 -- `region_table::all_apart` meets its contract. The loop's invariant: the flag says whether every two regions passed are apart.
 -- Assumes nothing.
-use mathlib.Core.Path.{◌≡◌, ap, ◌∙◌}
-use Prim.Native.Nat.{ℕ, ◌≤◌, ◌-◌}
-use native.Mathlib.Omega.{arith}
-use Rattle.base.specs.Lists.{all, pairwise}
-use Rattle.regions.specs.declared.MemRegion.{MemRegion}
+use mathlib.Core.Path.{◌≡◌}
+use Prim.Native.Nat.{◌≤◌, ◌-◌}
+use Rattle.base.specs.Lists.{pairwise}
 use Rattle.regions.specs.Regions.{apart}
-use Rattle.region_table.specs.Tables.{region_at, regions_of}
-use Rattle.region_table.proofs.Laws.{pairwise-no-region, pairwise-regions}
-use Rattle.std.proofs.Common.{rules}
+use Rattle.region_table.specs.Tables.{regions_of}
 use Rattle.region_table.proofs.all_apart.Given as goal
 
 abbrev pub invariant-loop-i : goal.invariant-loop-i

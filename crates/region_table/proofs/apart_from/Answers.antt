@@ -1,7 +1,7 @@
 -- `region_table::apart_from` meets its contract. The loop's invariant: the flag says whether every region passed is apart from r.
 -- Assumes nothing.
 use mathlib.Core.Path.{◌≡◌, ap, ◌∙◌}
-use Prim.Native.Nat.{ℕ, ◌≤◌, ◌-◌}
+use Prim.Native.Nat.{ℕ, ◌-◌}
 use native.Mathlib.Omega.{arith}
 use Rattle.base.specs.Lists.{all}
 use Rattle.regions.specs.declared.MemRegion.{MemRegion}
@@ -16,11 +16,10 @@ loop-i-init c = (search rules, all-no-region _ _ _)
 
 pub loop-i-preserved : goal.loop-i-preserved
 unfolding region_at
-loop-i-preserved c =
-    (
-      search rules,
-      all-regions _ _ c.loop-i.i (λ x. apart x c.args.r) _ _ c.loop-i.invariant.1 (c.apart-ok.ensures ∙ ap (λ (x : MemRegion). apart x c.args.r) c.region_at.ensures),
-    )
+loop-i-preserved c = (
+  search rules,
+  all-regions _ _ c.loop-i.i (λ x. apart x c.args.r) _ _ c.loop-i.invariant.1 (c.apart-ok.ensures ∙ ap (λ (x : MemRegion). apart x c.args.r) c.region_at.ensures),
+)
 
 pub returns : goal.returns
 returns c =

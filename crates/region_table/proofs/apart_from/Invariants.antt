@@ -1,14 +1,10 @@
 -- `region_table::apart_from` meets its contract. The loop's invariant: the flag says whether every region passed is apart from r.
 -- Assumes nothing.
-use mathlib.Core.Path.{◌≡◌, ap, ◌∙◌}
-use Prim.Native.Nat.{ℕ, ◌≤◌, ◌-◌}
-use native.Mathlib.Omega.{arith}
+use mathlib.Core.Path.{◌≡◌}
+use Prim.Native.Nat.{◌≤◌, ◌-◌}
 use Rattle.base.specs.Lists.{all}
-use Rattle.regions.specs.declared.MemRegion.{MemRegion}
 use Rattle.regions.specs.Regions.{apart}
-use Rattle.region_table.specs.Tables.{region_at, regions_of}
-use Rattle.region_table.proofs.Laws.{all-no-region, all-regions}
-use Rattle.std.proofs.Common.{rules}
+use Rattle.region_table.specs.Tables.{regions_of}
 use Rattle.region_table.proofs.apart_from.Given as goal
 
 abbrev pub invariant-loop-i : goal.invariant-loop-i

@@ -1,13 +1,10 @@
 -- `region_table::has_comm` meets its contract. The loop's invariant: the flag says whether a region passed is a communication region.
 -- The array has as many elements as places, so the loop passes those that the count names. Assumes nothing.
-use mathlib.Core.Path.{◌≡◌, ap, ◌∙◌}
+use mathlib.Core.Path.{◌≡◌}
 use Prim.Native.Nat.{◌≤◌, ◌-◌}
-use native.Mathlib.Omega.{arith}
 use lib.ListN.{take}
 use Rattle.base.specs.Lists.{any}
-use Rattle.base.proofs.Lists.{any_none, any-turn, take-used}
 use Rattle.regions.specs.Regions.{comm}
-use Rattle.std.proofs.Common.{rules}
 use Rattle.region_table.proofs.has_comm.Given as goal
 
 abbrev pub invariant-loop-i : goal.invariant-loop-i

@@ -1,7 +1,6 @@
 -- `region_table::no_region` meets its contract: it is the definition. Assumes nothing.
 use mathlib.Core.Path.{refl}
 use Rattle.regions.specs.Regions.{no_region}
-use Rattle.std.proofs.Common.{rules}
 use Rattle.region_table.proofs.no_region.Goals as goal
 
 pub returns : goal.returns

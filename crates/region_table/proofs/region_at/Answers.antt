@@ -5,7 +5,6 @@ use native.Mathlib.Omega.{arith}
 use Rattle.base.proofs.Lists.{part-rest}
 use Rattle.regions.specs.Regions.{region_of}
 use Rattle.regions.proofs.Laws.{past-region}
-use Rattle.std.proofs.Common.{rules}
 use Rattle.region_table.proofs.region_at.Goals as goal
 
 pub returns-then-at-s : goal.returns-then-at-s

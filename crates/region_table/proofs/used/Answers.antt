@@ -1,6 +1,5 @@
 -- `region_table::used` meets its contract: the lesser of the two. Assumes nothing.
 use native.Mathlib.Omega.{arith}
-use Rattle.std.proofs.Common.{rules}
 use Rattle.region_table.proofs.used.Goals as goal
 
 pub returns-then-count-places : goal.returns-then-count-places

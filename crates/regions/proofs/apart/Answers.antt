@@ -1,7 +1,6 @@
 -- `regions::apart` meets its contract: it is the definition, with what `overlap` and `is_comm` ensure. Assumes nothing.
 use mathlib.Core.Bool.{not, ◌&&◌, ◌||◌}
 use Rattle.regions.specs.Regions.{apart, overlap_virt, overlap_phys}
-use Rattle.std.proofs.Common.{rules}
 use Rattle.regions.proofs.apart.Goals as goal
 
 pub returns : goal.returns

@@ -1,7 +1,6 @@
 -- `regions::clear_of` meets its contract: it is the definition, with what `is_comm` and `overlap` ensure. Assumes nothing.
 use mathlib.Core.Bool.{not, ◌||◌}
 use Rattle.regions.specs.Regions.{clear_of}
-use Rattle.std.proofs.Common.{rules}
 use Rattle.regions.proofs.clear_of.Goals as goal
 
 pub returns : goal.returns

@@ -2,7 +2,6 @@
 use mathlib.Core.Bool.{not, ◌&&◌, ◌||◌}
 use lib.Dec.{eqb}
 use Rattle.regions.specs.Regions.{comm_ok}
-use Rattle.std.proofs.Common.{rules}
 use Rattle.regions.proofs.comm_ok.Goals as goal
 
 pub returns : goal.returns

@@ -1,6 +1,5 @@
 -- `regions::ends_by_limit` meets its contract: a size past 2^48 ends past it, and else the difference tells. Assumes nothing.
 use Rattle.regions.proofs.Laws.{ends-within, ends-past}
-use Rattle.std.proofs.Common.{rules}
 use Rattle.regions.proofs.ends_by_limit.Goals as goal
 
 pub returns-then-size-le281474976710656 : goal.returns-then-size-le281474976710656

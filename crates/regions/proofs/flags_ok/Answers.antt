@@ -2,7 +2,6 @@
 use mathlib.Core.Bool.{not, ◌&&◌}
 use lib.Dec.{ltb}
 use Rattle.regions.specs.Regions.{readable, flags_ok}
-use Rattle.std.proofs.Common.{rules}
 use Rattle.regions.proofs.flags_ok.Goals as goal
 
 pub returns : goal.returns

@@ -1,6 +1,5 @@
 -- `regions::inside` meets its contract: a range that starts before, one that is larger, and the rest. Assumes nothing.
 use Rattle.regions.proofs.Laws.{inside-before, inside-larger, inside-within}
-use Rattle.std.proofs.Common.{rules}
 use Rattle.regions.proofs.inside.Goals as goal
 
 pub returns-then-a-b : goal.returns-then-a-b

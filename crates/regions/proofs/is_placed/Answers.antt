@@ -1,7 +1,6 @@
 -- `regions::is_placed` meets its contract: both sides by `whole_pages`. Assumes nothing.
 use mathlib.Core.Bool.{◌&&◌}
 use Rattle.regions.specs.Regions.{placed}
-use Rattle.std.proofs.Common.{rules}
 use Rattle.regions.proofs.is_placed.Goals as goal
 
 pub returns : goal.returns

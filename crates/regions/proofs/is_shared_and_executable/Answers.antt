@@ -1,7 +1,6 @@
 -- `regions::is_shared_and_executable` meets its contract: each of the two flags is what its test ensures. Assumes nothing.
 use mathlib.Core.Path.{ap₂}
 use mathlib.Core.Bool.{Bool, ◌&&◌}
-use Rattle.std.proofs.Common.{rules}
 use Rattle.regions.proofs.is_shared_and_executable.Goals as goal
 
 pub returns : goal.returns

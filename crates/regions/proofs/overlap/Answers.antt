@@ -1,6 +1,5 @@
 -- `regions::overlap` meets its contract: `overlap-up` and `overlap-down`, by which range starts first. Assumes nothing.
 use Rattle.regions.proofs.Laws.{overlap-up, overlap-down}
-use Rattle.std.proofs.Common.{rules}
 use Rattle.regions.proofs.overlap.Goals as goal
 
 pub returns-then-a-b : goal.returns-then-a-b

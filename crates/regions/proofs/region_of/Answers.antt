@@ -1,6 +1,5 @@
 -- `regions::region_of` meets its contract: each field is the u64 at its offset. Assumes nothing.
 use Rattle.regions.specs.Regions.{region_of}
-use Rattle.std.proofs.Common.{rules}
 use Rattle.regions.proofs.region_of.Goals as goal
 
 pub returns : goal.returns

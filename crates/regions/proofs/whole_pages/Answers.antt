@@ -2,7 +2,6 @@
 use mathlib.Core.Bool.{◌&&◌}
 use lib.Dec.{leb}
 use Rattle.regions.specs.Regions.{aligned, whole_pages}
-use Rattle.std.proofs.Common.{rules}
 use Rattle.regions.proofs.whole_pages.Goals as goal
 
 pub returns : goal.returns

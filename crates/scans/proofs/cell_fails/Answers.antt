@@ -2,7 +2,6 @@
 use mathlib.Core.Path.{ap₂}
 use mathlib.Core.Bool.{Bool, not, ◌&&◌}
 use lib.Dec.{ltb, eqb}
-use Rattle.std.proofs.Common.{rules}
 use Rattle.scans.proofs.cell_fails.Goals as goal
 
 pub returns : goal.returns

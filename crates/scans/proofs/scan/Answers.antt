@@ -9,7 +9,6 @@ use Rattle.rules.specs.Effects.{counted, call_counter}
 use Rattle.live_cells.specs.Looks.{found_live}
 use Rattle.scans.specs.Scan.{scan_of}
 use Rattle.scans.proofs.Scans.{scan-at, create-asked, scan-create, scan-other, scan-fails, scan-holds, fault-found}
-use Rattle.std.proofs.Common.{rules}
 use Rattle.scans.proofs.scan.Goals as goal
 
 pub returns-then-code-eq-CELL_CREATE : goal.returns-then-code-eq-CELL_CREATE

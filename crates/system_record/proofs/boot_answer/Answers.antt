@@ -3,7 +3,6 @@ use mathlib.Core.Path.{◌≡◌, ap}
 use mathlib.Core.Bool.{true, false, not, ◌&&◌}
 use Rattle.system_record.specs.SystemRecord.{out_of_range, overdrawn}
 use Rattle.system_record.proofs.Laws.{told, broken, answer-broken, answer-range, answer-overdrawn, answer-accepted}
-use Rattle.std.proofs.Common.{rules}
 use Rattle.system_record.proofs.boot_answer.Goals as goal
 
 pub returns-then-not-system_form-system_valid : goal.returns-then-not-system_form-system_valid

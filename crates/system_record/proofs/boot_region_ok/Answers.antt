@@ -2,7 +2,6 @@
 use mathlib.Core.Bool.{◌&&◌}
 use lib.Dec.{ltb}
 use Rattle.system_record.specs.SystemRecord.{boot_region_ok}
-use Rattle.std.proofs.Common.{rules}
 use Rattle.system_record.proofs.boot_region_ok.Goals as goal
 
 pub returns : goal.returns

@@ -1,15 +1,11 @@
 -- `system_record::boot_regions_ok` meets its contract. The loop's invariant: the flag says whether every region passed keeps the rules.
 -- Assumes nothing.
 use mathlib.Core.Path.{◌≡◌, sym, ap, ◌∙◌}
-use mathlib.Core.Bool.{Bool}
-use Prim.Native.Nat.{ℕ, ◌≤◌, ◌-◌}
+use Prim.Native.Nat.{ℕ, ◌-◌}
 use native.Mathlib.Omega.{arith}
 use Rattle.base.specs.Lists.{all}
-use Rattle.regions.specs.declared.MemRegion.{MemRegion}
 use Rattle.region_table.specs.Tables.{region_at, regions_of}
 use Rattle.region_table.proofs.Laws.{all-no-region, all-regions}
-use Rattle.system_record.specs.declared.Range.{Range}
-use Rattle.system_record.specs.SystemRecord.{boot_region_ok}
 use Rattle.system_record.proofs.Laws.{record-regions}
 use Rattle.system_record.proofs.boot_regions_ok.Invariants.{ok-beside}
 use Rattle.std.proofs.Common.{rules}
@@ -20,11 +16,10 @@ loop-i-init c = (search rules, all-no-region _ _ _)
 
 pub loop-i-preserved : goal.loop-i-preserved
 unfolding region_at
-loop-i-preserved c =
-    (
-      search rules,
-      all-regions _ _ c.loop-i.i (ok-beside c.args.hypervisor) _ _ c.loop-i.invariant.1 (c.boot_region_ok-ok.ensures ∙ ap (ok-beside c.args.hypervisor) c.region_at.ensures),
-    )
+loop-i-preserved c = (
+  search rules,
+  all-regions _ _ c.loop-i.i (ok-beside c.args.hypervisor) _ _ c.loop-i.invariant.1 (c.boot_region_ok-ok.ensures ∙ ap (ok-beside c.args.hypervisor) c.region_at.ensures),
+)
 
 pub returns : goal.returns
 returns c =

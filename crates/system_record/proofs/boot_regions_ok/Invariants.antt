@@ -1,17 +1,13 @@
 -- `system_record::boot_regions_ok` meets its contract. The loop's invariant: the flag says whether every region passed keeps the rules.
 -- Assumes nothing.
-use mathlib.Core.Path.{◌≡◌, sym, ap, ◌∙◌}
+use mathlib.Core.Path.{◌≡◌}
 use mathlib.Core.Bool.{Bool}
-use Prim.Native.Nat.{ℕ, ◌≤◌, ◌-◌}
-use native.Mathlib.Omega.{arith}
+use Prim.Native.Nat.{◌≤◌, ◌-◌}
 use Rattle.base.specs.Lists.{all}
 use Rattle.regions.specs.declared.MemRegion.{MemRegion}
-use Rattle.region_table.specs.Tables.{region_at, regions_of}
-use Rattle.region_table.proofs.Laws.{all-no-region, all-regions}
+use Rattle.region_table.specs.Tables.{regions_of}
 use Rattle.system_record.specs.declared.Range.{Range}
 use Rattle.system_record.specs.SystemRecord.{boot_region_ok}
-use Rattle.system_record.proofs.Laws.{record-regions}
-use Rattle.std.proofs.Common.{rules}
 use Rattle.system_record.proofs.boot_regions_ok.Given as goal
 
 abbrev pub ok-beside : Range → MemRegion → Bool

@@ -1,10 +1,10 @@
 -- `system_record::boot_table` meets its contract. The loop's invariant: the table holds the first i regions of the record. Assumes nothing.
-use mathlib.Core.Path.{◌≡◌, refl, ◌∙◌}
-use Prim.Native.Nat.{◌≤◌, ◌-◌}
+use mathlib.Core.Path.{refl, ◌∙◌}
+use Prim.Native.Nat.{◌-◌}
 use native.Mathlib.Omega.{arith}
-use lib.ListN.{length, length-set}
-use Rattle.region_table.specs.Tables.{max_boot_regions, region_at}
-use Rattle.region_table.proofs.Laws.{Filled, filled_none, filled_more, filled-all}
+use lib.ListN.{length-set}
+use Rattle.region_table.specs.Tables.{region_at}
+use Rattle.region_table.proofs.Laws.{filled_none, filled_more, filled-all}
 use Rattle.system_record.specs.SystemRecord.{system_of}
 use Rattle.std.proofs.Common.{rules}
 use Rattle.system_record.proofs.boot_table.Goals as goal
@@ -14,12 +14,11 @@ loop-i-init c = (search rules, refl, filled_none _ _ _ _ c.no_region-table.ensur
 
 pub loop-i-preserved : goal.loop-i-preserved
 unfolding region_at
-loop-i-preserved c =
-    (
-      search rules,
-      length-set c.loop-i.table c.loop-i.i _ ∙ c.loop-i.invariant.1,
-      filled_more _ _ _ c.loop-i.table c.loop-i.invariant.1 c.loop-i.i _ (omega arith) c.region_at.ensures c.loop-i.invariant.2,
-    )
+loop-i-preserved c = (
+  search rules,
+  length-set c.loop-i.table c.loop-i.i _ ∙ c.loop-i.invariant.1,
+  filled_more _ _ _ c.loop-i.table c.loop-i.invariant.1 c.loop-i.i _ (omega arith) c.region_at.ensures c.loop-i.invariant.2,
+)
 
 pub returns : goal.returns
 unfolding system_of

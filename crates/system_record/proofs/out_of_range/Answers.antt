@@ -2,7 +2,6 @@
 use mathlib.Core.Bool.{not, ◌&&◌, ◌||◌}
 use lib.Dec.{leb}
 use Rattle.system_record.specs.SystemRecord.{out_of_range}
-use Rattle.std.proofs.Common.{rules}
 use Rattle.system_record.proofs.out_of_range.Goals as goal
 
 pub returns : goal.returns

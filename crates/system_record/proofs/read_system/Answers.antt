@@ -4,7 +4,6 @@ use mathlib.Core.Path.{◌∙◌}
 use mir.Syntax.{w32}
 use mir.Facts.{to_z-of_z}
 use Rattle.system_record.specs.SystemRecord.{read_system}
-use Rattle.std.proofs.Common.{rules}
 use Rattle.system_record.proofs.read_system.Goals as goal
 
 pub returns : goal.returns

@@ -7,7 +7,6 @@ use lib.ListN.{length}
 use Rattle.fields.specs.Fields.{zeros}
 use Rattle.region_table.specs.Tables.{max_boot_regions}
 use Rattle.system_record.specs.SystemRecord.{system_form}
-use Rattle.std.proofs.Common.{rules}
 use Rattle.system_record.proofs.system_form.Goals as goal
 
 pub returns : goal.returns

@@ -2,7 +2,6 @@
 use mathlib.Core.Path.{ap, ◌∙◌}
 use Rattle.fields.specs.Fields.{padded}
 use Rattle.system_record.specs.SystemRecord.{system_of}
-use Rattle.std.proofs.Common.{rules}
 use Rattle.system_record.proofs.system_of.Goals as goal
 
 pub returns : goal.returns

@@ -1,6 +1,5 @@
 -- `system_record::too_many` meets its contract: it is the definition. Assumes nothing.
 use mathlib.Core.Path.{refl}
-use Rattle.std.proofs.Common.{rules}
 use Rattle.system_record.proofs.too_many.Goals as goal
 
 pub returns : goal.returns

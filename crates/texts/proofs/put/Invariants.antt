@@ -1,12 +1,9 @@
 -- `texts::put` meets its contract. The loop's invariant: the bytes passed are written. The measure is what is left of the text.
 -- Assumes nothing.
-use mathlib.Core.Path.{◌≡◌, ◌∙◌}
+use mathlib.Core.Path.{◌≡◌}
 use Prim.Native.Nat.{◌≤◌, ◌+◌, ◌-◌}
-use lib.ListN.{length, take, length-set}
-use lib.Seq.{take_all}
+use lib.ListN.{length, take}
 use Rattle.texts.specs.Put.{Put}
-use Rattle.texts.proofs.Laws.{copy-turn}
-use Rattle.std.proofs.Common.{rules}
 use Rattle.texts.proofs.put.Given as goal
 
 abbrev pub invariant-loop-i : goal.invariant-loop-i

@@ -5,7 +5,6 @@ use mir.Facts.{to_z-of_z}
 use Rattle.machine_state.specs.declared.Answer.TheVariants.{Code}
 use Rattle.texts.specs.Texts.{answer_text, answer_line}
 use Rattle.texts.proofs.Laws.{line_kept, answer-put}
-use Rattle.std.proofs.Common.{rules}
 use Rattle.texts.proofs.put_answer.Goals as goal
 
 pub returns-then-out-lt-MAX_TEXT : goal.returns-then-out-lt-MAX_TEXT

@@ -2,7 +2,6 @@
 use mir.Facts.{to_z-of_z}
 use Rattle.texts.specs.Texts.{boot_line}
 use Rattle.texts.proofs.Laws.{line_kept, line-put, boot-short}
-use Rattle.std.proofs.Common.{rules}
 use Rattle.texts.proofs.put_boot.Goals as goal
 
 pub returns-then-out-lt-MAX_TEXT : goal.returns-then-out-lt-MAX_TEXT

@@ -5,7 +5,6 @@ use mir.Facts.{to_z-of_z}
 use Rattle.texts.specs.Texts.{signed}
 use Rattle.texts.specs.Put.{Put}
 use Rattle.texts.proofs.Laws.{put_both, put_byte, put-length, put-room, signed-short}
-use Rattle.std.proofs.Common.{rules}
 use Rattle.texts.proofs.put_code.Goals as goal
 
 -- in each answer, `both` says that the word and the number stand there

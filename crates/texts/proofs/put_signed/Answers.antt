@@ -3,7 +3,6 @@ use native.Mathlib.Omega.{arith}
 use lib.ListN.{length-set}
 use mir.Facts.{to_z-of_z}
 use Rattle.texts.proofs.Laws.{put-below, put-from, put-length}
-use Rattle.std.proofs.Common.{rules}
 use Rattle.texts.proofs.put_signed.Goals as goal
 
 pub put_decimal-requires : goal.put_decimal-requires

@@ -4,7 +4,6 @@ use native.Mathlib.Omega.{arith}
 use Rattle.texts.specs.Texts.{wait_text, decimal}
 use Rattle.texts.specs.Put.{Put}
 use Rattle.texts.proofs.Laws.{put_both, put_byte, put-length, put-room, decimal-short}
-use Rattle.std.proofs.Common.{rules}
 use Rattle.texts.proofs.put_wait.Goals as goal
 
 -- in each answer, `both` says that the word and the number stand there

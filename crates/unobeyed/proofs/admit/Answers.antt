@@ -1,6 +1,5 @@
 -- `unobeyed::admit` meets its contract: each arm is its case of the table. Assumes nothing.
 use Rattle.unobeyed.proofs.Laws.{admits-at, admits-call, admits-fault, admits-exit}
-use Rattle.std.proofs.Common.{rules}
 use Rattle.unobeyed.proofs.admit.Goals as goal
 
 pub returns-in-Call : goal.returns-in-Call

@@ -5,7 +5,6 @@ use Rattle.rules.specs.Unobeyed.{is_on, unobeyed}
 use Rattle.unobeyed.proofs.Laws.{applies, passes, negated, not-admitted}
 use mathlib.Core.Path.{ap}
 use mathlib.Core.Bool.{not}
-use Rattle.std.proofs.Common.{rules}
 use Rattle.unobeyed.proofs.admit_malformed.Goals as goal
 
 pub returns-then-not-is_on : goal.returns-then-not-is_on

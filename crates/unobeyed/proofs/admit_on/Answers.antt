@@ -6,16 +6,15 @@ use Rattle.cpu_set.specs.CpuSet.{member}
 use Rattle.rules.specs.Unobeyed.{is_on}
 use mathlib.Core.Path.{ap}
 use mathlib.Core.Bool.{not}
-use Rattle.std.proofs.Common.{rules}
 use Rattle.unobeyed.proofs.admit_on.Goals as goal
 
 pub returns-then-not-is_on : goal.returns-then-not-is_on
 returns-then-not-is_on c =
     record {
-  follows = λ m p b s w. applies m _ Off _ (negated is_on _ _ _ _ p c.is_on.ensures (ap not c.if-not-is_on.true));
-  in_table = λ q. absurd (not-admitted Off q);
-  not_bad = λ q. absurd (not-admitted Off q);
-}
+      follows = λ m p b s w. applies m _ Off _ (negated is_on _ _ _ _ p c.is_on.ensures (ap not c.if-not-is_on.true));
+      in_table = λ q. absurd (not-admitted Off q);
+      not_bad = λ q. absurd (not-admitted Off q);
+    }
 
 pub returns-then-not-contains : goal.returns-then-not-contains
 returns-then-not-contains c =

@@ -1,7 +1,6 @@
 -- `unobeyed::admit_own` meets its contract: each test is a row of the table, in its order. Assumes nothing.
 use Rattle.machine_state.specs.declared.Answer.TheVariants.{Stopped, Held}
 use Rattle.unobeyed.proofs.Laws.{applies, passes, held-row, none_left}
-use Rattle.std.proofs.Common.{rules}
 use Rattle.unobeyed.proofs.admit_own.Goals as goal
 
 pub returns-then-p : goal.returns-then-p

@@ -6,7 +6,6 @@ use Rattle.unobeyed.specs.Admission.{Placed}
 use Rattle.unobeyed.proofs.Laws.{applies, passes, negated, none_left, not-admitted}
 use mathlib.Core.Path.{ap}
 use mathlib.Core.Bool.{not}
-use Rattle.std.proofs.Common.{rules}
 use Rattle.unobeyed.proofs.admit_poll.Goals as goal
 
 pub returns-then-not-is_on : goal.returns-then-not-is_on

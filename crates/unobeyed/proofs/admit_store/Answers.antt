@@ -4,7 +4,6 @@ use mathlib.Core.Path.{sym, ◌∙◌}
 use Rattle.machine_state.specs.declared.Answer.TheVariants.{Denied}
 use Rattle.unobeyed.specs.Admission.{Placed}
 use Rattle.unobeyed.proofs.Laws.{not-admitted, stored-place, store-refused, store-denied, store-allowed, store-cpu, store-test}
-use Rattle.std.proofs.Common.{rules}
 use Rattle.unobeyed.proofs.admit_store.Goals as goal
 
 pub returns-then-store_denied : goal.returns-then-store_denied

@@ -3,7 +3,6 @@ use mathlib.Core.Path.{refl}
 use native.Mathlib.Omega.{arith}
 use Rattle.comms.proofs.Laws.{index_at}
 use Rattle.unobeyed.specs.Admission.{asked_for}
-use Rattle.std.proofs.Common.{rules}
 use Rattle.unobeyed.proofs.asked_for.Goals as goal
 
 pub returns-in-Call : goal.returns-in-Call

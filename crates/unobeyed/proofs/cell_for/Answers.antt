@@ -2,7 +2,6 @@
 use mathlib.Core.Path.{◌∙◌}
 use Rattle.unobeyed.specs.Admission.{cell_for}
 use Rattle.unobeyed.proofs.Laws.{cell-for-at}
-use Rattle.std.proofs.Common.{rules}
 use Rattle.unobeyed.proofs.cell_for.Goals as goal
 
 pub returns-in-Call : goal.returns-in-Call

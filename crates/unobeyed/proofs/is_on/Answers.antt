@@ -1,7 +1,6 @@
 -- `unobeyed::is_on` meets its contract: each arm is its case of the definition. Assumes nothing.
 use mathlib.Core.Path.{sym, ap}
 use Rattle.rules.specs.Unobeyed.{is_on}
-use Rattle.std.proofs.Common.{rules}
 use Rattle.unobeyed.proofs.is_on.Goals as goal
 
 pub returns-in-Unbooted : goal.returns-in-Unbooted

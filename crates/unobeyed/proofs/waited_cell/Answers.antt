@@ -1,7 +1,6 @@
 -- `unobeyed::waited_cell` meets its contract: each arm is its case of the definition. Assumes nothing.
 use mathlib.Core.Path.{sym, ap}
 use Rattle.unobeyed.specs.Admission.{waited_cell}
-use Rattle.std.proofs.Common.{rules}
 use Rattle.unobeyed.proofs.waited_cell.Goals as goal
 
 pub returns-in-NoCall : goal.returns-in-NoCall

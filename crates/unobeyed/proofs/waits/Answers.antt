@@ -1,7 +1,6 @@
 -- `unobeyed::waits` meets its contract: each arm is its case of the definition. Assumes nothing.
 use mathlib.Core.Path.{sym, ap}
 use Rattle.rules.specs.State as State
-use Rattle.std.proofs.Common.{rules}
 use Rattle.unobeyed.proofs.waits.Goals as goal
 
 pub returns-in-NoCall : goal.returns-in-NoCall

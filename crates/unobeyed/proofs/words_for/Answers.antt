@@ -2,7 +2,6 @@
 use Rattle.comms.specs.Comms.{cell_index}
 use Rattle.comms.proofs.Laws.{index_at}
 use mathlib.Core.Path.{sym}
-use Rattle.std.proofs.Common.{rules}
 use Rattle.unobeyed.proofs.words_for.Goals as goal
 
 pub returns : goal.returns

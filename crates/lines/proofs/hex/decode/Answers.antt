@@ -1,11 +1,9 @@
 -- `lines::hex::decode` meets its contract. The loop's invariant: the start of `out` holds the bytes made so far, the rest is as it was.
 -- Assumes nothing.
-use mathlib.Core.Path.{◌≡◌, refl, ◌∙◌}
-use mathlib.Core.List.{◌++◌}
-use Prim.Native.Nat.{◌≤◌, ◌-◌, ◌+◌, ◌*◌}
+use mathlib.Core.Path.{refl, ◌∙◌}
+use Prim.Native.Nat.{◌-◌, ◌+◌, ◌*◌}
 use native.Mathlib.Omega.{arith}
-use lib.ListN.{length, take, drop, length-set}
-use Rattle.lines.specs.Lines.{bytes_of}
+use lib.ListN.{length-set}
 use Rattle.lines.proofs.PairLaws.{digit_at, length-bytes, byte-stored}
 use Rattle.std.proofs.Common.{rules}
 use Rattle.lines.proofs.hex.decode.Goals as goal
@@ -20,12 +18,11 @@ pub hex_digit-low-requires : goal.hex_digit-low-requires
 hex_digit-low-requires c = digit_at c.args.w.now (2 * c.loop-n.n + 1) c.requires (omega arith)
 
 pub loop-n-preserved : goal.loop-n-preserved
-loop-n-preserved c =
-    (
-      omega arith,
-      byte-stored c.args.w.now c.args.out.now c.loop-n.out c.loop-n.n _ _ (omega arith) (omega arith) c.hex_digit-high.ensures.value c.hex_digit-low.ensures.value c.loop-n.invariant.1,
-      length-set c.loop-n.out c.loop-n.n _ ∙ c.loop-n.invariant.2,
-    )
+loop-n-preserved c = (
+  omega arith,
+  byte-stored c.args.w.now c.args.out.now c.loop-n.out c.loop-n.n _ _ (omega arith) (omega arith) c.hex_digit-high.ensures.value c.hex_digit-low.ensures.value c.loop-n.invariant.1,
+  length-set c.loop-n.out c.loop-n.n _ ∙ c.loop-n.invariant.2,
+)
 
 pub shape_of-out : goal.shape_of-out
 shape_of-out c = c.loop-n.invariant.2

@@ -1,13 +1,10 @@
 -- `lines::hex::decode` meets its contract. The loop's invariant: the start of `out` holds the bytes made so far, the rest is as it was.
 -- Assumes nothing.
-use mathlib.Core.Path.{◌≡◌, refl, ◌∙◌}
+use mathlib.Core.Path.{◌≡◌}
 use mathlib.Core.List.{◌++◌}
-use Prim.Native.Nat.{◌≤◌, ◌-◌, ◌+◌, ◌*◌}
-use native.Mathlib.Omega.{arith}
-use lib.ListN.{length, take, drop, length-set}
+use Prim.Native.Nat.{◌≤◌, ◌-◌, ◌+◌}
+use lib.ListN.{length, take, drop}
 use Rattle.lines.specs.Lines.{bytes_of}
-use Rattle.lines.proofs.PairLaws.{digit_at, length-bytes, byte-stored}
-use Rattle.std.proofs.Common.{rules}
 use Rattle.lines.proofs.hex.decode.Given as goal
 
 abbrev pub invariant-loop-n : goal.invariant-loop-n

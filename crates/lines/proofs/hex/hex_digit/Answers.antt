@@ -1,6 +1,5 @@
 -- `lines::hex::hex_digit` meets its contract: a digit up to `9` is one of 0 to 9, any other one of a to f. Assumes nothing.
 use Rattle.lines.proofs.PairLaws.{low_digit, high_digit}
-use Rattle.std.proofs.Common.{rules}
 use Rattle.lines.proofs.hex.hex_digit.Goals as goal
 
 pub overflow_sub-result : goal.overflow_sub-result

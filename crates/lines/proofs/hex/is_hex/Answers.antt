@@ -1,12 +1,8 @@
 -- `lines::hex::is_hex` meets its contract. The loop's invariant: the flag says whether every byte passed is a digit. Assumes nothing.
-use mathlib.Core.Path.{◌≡◌}
 use Prim.Native.Nat.{◌-◌}
-use lib.ListN.{length, take}
-use Rattle.base.specs.Lists.{all}
 use Rattle.base.proofs.Lists.{all-turn, all_none}
 use Rattle.lines.specs.Lines.{is_hex_digit}
 use Rattle.lines.proofs.PairLaws.{no_pairs, odd-pairs, even-pairs}
-use Rattle.std.proofs.Common.{rules}
 use Rattle.lines.proofs.hex.is_hex.Goals as goal
 
 pub returns-then-w-lt1 : goal.returns-then-w-lt1

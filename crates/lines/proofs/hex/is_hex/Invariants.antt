@@ -3,10 +3,7 @@ use mathlib.Core.Path.{◌≡◌}
 use Prim.Native.Nat.{◌-◌}
 use lib.ListN.{length, take}
 use Rattle.base.specs.Lists.{all}
-use Rattle.base.proofs.Lists.{all-turn, all_none}
 use Rattle.lines.specs.Lines.{is_hex_digit}
-use Rattle.lines.proofs.PairLaws.{no_pairs, odd-pairs, even-pairs}
-use Rattle.std.proofs.Common.{rules}
 use Rattle.lines.proofs.hex.is_hex.Given as goal
 
 abbrev pub invariant-loop-i : goal.invariant-loop-i

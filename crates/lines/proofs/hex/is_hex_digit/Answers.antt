@@ -1,6 +1,5 @@
 -- `lines::hex::is_hex_digit` meets its contract: it is the definition. Assumes nothing.
 use mathlib.Core.Path.{refl}
-use Rattle.std.proofs.Common.{rules}
 use Rattle.lines.proofs.hex.is_hex_digit.Goals as goal
 
 pub returns : goal.returns

@@ -1,14 +1,9 @@
 -- `lines::numbers::digits_of` meets its contract. The loop's invariant: the number read so far, with the digits that are left, is the
 -- whole. Assumes nothing.
-use mathlib.Core.Path.{◌≡◌, refl, ◌∙◌}
+use mathlib.Core.Path.{◌≡◌}
 use Prim.Native.Nat.{◌-◌, ◌<◌, ◌^◌}
-use borrow.Author.Tests.{not-true, not-false}
 use lib.ListN.{length, drop}
 use Rattle.lines.specs.Reading.{with_digits}
-use Rattle.lines.proofs.NumberLaws.{digits-stop, digits-turn, digits-end}
-use mathlib.Core.Path.{ap}
-use mathlib.Core.Bool.{not}
-use Rattle.std.proofs.Common.{rules}
 use Rattle.lines.proofs.numbers.digits_of.Given as goal
 
 abbrev pub invariant-loop-i : goal.invariant-loop-i

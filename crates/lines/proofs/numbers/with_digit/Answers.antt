@@ -2,7 +2,6 @@
 -- Assumes nothing.
 use native.Mathlib.Omega.{arith}
 use Rattle.lines.proofs.NumberLaws.{below-digits, above-digits, too_large, one_more}
-use Rattle.std.proofs.Common.{rules}
 use Rattle.lines.proofs.numbers.with_digit.Goals as goal
 
 pub returns-then-b-lt48 : goal.returns-then-b-lt48

@@ -1,7 +1,6 @@
 -- `lines::numbers::word32_number` meets its contract: a number below 2^64 is one below 2^32 where its value is. Assumes nothing.
 use native.Mathlib.Omega.{arith}
 use Rattle.lines.proofs.NumberLaws.{number-32, no-number-32}
-use Rattle.std.proofs.Common.{rules}
 use Rattle.lines.proofs.numbers.word32_number.Goals as goal
 
 pub returns-then-value-gt4294967295 : goal.returns-then-value-gt4294967295

@@ -2,7 +2,6 @@
 -- Assumes nothing.
 use mathlib.Core.Path.{◌∙◌}
 use Rattle.lines.proofs.NumberLaws.{no-digits, zero-first, all_digits}
-use Rattle.std.proofs.Common.{rules}
 use Rattle.lines.proofs.numbers.word_number.Goals as goal
 
 pub returns-then-w-lt1 : goal.returns-then-w-lt1

@@ -1,11 +1,9 @@
 -- `lines::words::word_end` meets its contract. The loop's invariant: the word that begins at i ends where the one at the start does.
 -- Assumes nothing.
-use mathlib.Core.Path.{◌≡◌, refl, sym, ◌∙◌}
+use mathlib.Core.Path.{◌≡◌}
 use Prim.Native.Nat.{◌-◌}
 use lib.ListN.{length}
 use Rattle.lines.specs.Reading.{word_end}
-use Rattle.lines.proofs.WordLaws.{end_more, end-stop, end-past}
-use Rattle.std.proofs.Common.{rules}
 use Rattle.lines.proofs.words.word_end.Given as goal
 
 abbrev pub invariant-loop-i : goal.invariant-loop-i
