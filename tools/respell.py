@@ -20,6 +20,8 @@ import sys
 APART = {
     "crates/apply/src/lib.rt": {"effect_of": "call_effect"},
     "crates/regions/src/lib.rt": {"Apart-of": "apart_of"},
+    "crates/manager/src/lib.rt": {"step_of_lem": "step_of"},
+    "crates/create_rules/proofs/Laws.antt": {"Full-is": "full-is"},
     "crates/cell_rules/proofs/cell_valid/Proof.antt": {"is_name": "is_named"},
     "crates/system_record/proofs/system_valid/Proof.antt": {"is_name": "is_named"},
     "crates/reached/proofs/Runs.antt": {"no_cell": "no_cell_lem"},
@@ -31,7 +33,6 @@ APART = {
 OTHER = {"bootCpus": "boot_cpu_set"}
 
 TOKEN = re.compile(r"(?<![A-Za-z0-9_'\-₀-₉])([A-Za-zμ][A-Za-z0-9_'\-→₀-₉]*)")
-DEFINED = re.compile(r"\s*(?:(?:unfoldable|abbrev|record|inductive|data|pub) )*([^\s:({]+) ?:")
 
 
 def snake(name):

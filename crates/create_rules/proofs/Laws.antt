@@ -68,7 +68,7 @@ other_row false true full t = refl
 other_row false false true t = absurd (fails t tt)
 other_row false false false t = refl
 
-module _ (caller : ℕ) (bytes : List ℕ) (m : Machine) (code : ℤ) (full : Bool) (used-is : code ≡ use_code caller bytes m) (Full-is : full ≡ no_room (cell_of bytes) m) where
+module _ (caller : ℕ) (bytes : List ℕ) (m : Machine) (code : ℤ) (full : Bool) (used-is : code ≡ use_code caller bytes m) (full-is : full ≡ no_room (cell_of bytes) m) where
   abbrev rest : ℤ
   rest =
       first_rule
@@ -79,7 +79,7 @@ module _ (caller : ℕ) (bytes : List ℕ) (m : Machine) (code : ℤ) (full : Bo
       (pos 0)
 
   test-is : (eqb (of_z w32 code) 0 && full) ≡ (eqb (of_z w32 (use_code caller bytes m)) 0 && no_room (cell_of bytes) m)
-  test-is = ap₂ (λ (z : ℤ) (b : Bool). eqb (of_z w32 z) 0 && b) used-is Full-is
+  test-is = ap₂ (λ (z : ℤ) (b : Bool). eqb (of_z w32 z) 0 && b) used-is full-is
 
   pub full-code : (eqb (of_z w32 code) 0 && full) ≡ true → ENOMEM ≡ rest
   unfolding use_code

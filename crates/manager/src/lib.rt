@@ -2,14 +2,14 @@
 #![tactic(auto)]
 
 ghost use Rattle.std.specs.Prelude.{◌≡◌};
-ghost use Rattle.rules.specs.Step.{step as step_of_lem};
+ghost use Rattle.rules.specs.Step.{step as step_of};
 
 use comms::CellSets;
 use machine_state::{Event, Machine, Stepped};
 
 // One event: its answer and the machine after it. A call with code 1 comes with its record's bytes.
 pub fn step(m: Machine, e: Event, record: &[u8]) -> Stepped
-    ensures { result ≡ step_of_lem e «record».now m }
+    ensures { result ≡ step_of e «record».now m }
 {
     let power = m.power;
     let system = m.system;
