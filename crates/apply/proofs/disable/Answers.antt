@@ -1,4 +1,4 @@
--- `apply::disable` meets its contract: the loop's invariant: destroying the cells from i up makes of the machine what destroying all makes of the first. Assumes nothing.
+-- `apply::disable` meets its contract: at the loop's end no cell is left to destroy. Assumes nothing.
 use mathlib.Core.Path.{refl, sym, ap, ◌∙◌}
 use native.Mathlib.Numerals.{add-one-le}
 use Prim.Native.Nat.{◌-◌}

@@ -1,4 +1,4 @@
--- `apply::disable` meets its contract: the loop's invariant: destroying the cells from i up makes of the machine what destroying all makes of the first. Assumes nothing.
+-- The loop's invariant: destroying the cells from i up makes of the machine what destroying all makes of the first.
 use mathlib.Core.Path.{◌≡◌}
 use Prim.Native.Nat.{◌-◌, ◌≤◌}
 use Rattle.base.specs.Lists.{from}

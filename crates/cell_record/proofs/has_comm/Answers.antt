@@ -1,5 +1,4 @@
--- `cell_record::has_comm` meets its contract. The loop's invariant: the flag says whether a region passed is a communication region.
--- Assumes nothing.
+-- `cell_record::has_comm` meets its contract, by the loop's invariant. Assumes nothing.
 use mathlib.Core.Path.{◌≡◌, sym, ap, ◌∙◌}
 use Prim.Native.Nat.{ℕ, ◌-◌}
 use native.Mathlib.Omega.{arith}

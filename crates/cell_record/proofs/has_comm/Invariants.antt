@@ -1,5 +1,4 @@
--- `cell_record::has_comm` meets its contract. The loop's invariant: the flag says whether a region passed is a communication region.
--- Assumes nothing.
+-- The loop's invariant: the flag says whether a region passed is a communication region.
 use mathlib.Core.Path.{◌≡◌}
 use Prim.Native.Nat.{◌≤◌, ◌-◌}
 use Rattle.base.specs.Lists.{any}

@@ -1,5 +1,4 @@
--- `cell_rules::regions_ok` meets its contract. The loop's invariant: the flag says whether every region passed keeps the rules.
--- Assumes nothing.
+-- `cell_rules::regions_ok` meets its contract, by the loop's invariant. Assumes nothing.
 use mathlib.Core.Path.{◌≡◌, sym, ap, ◌∙◌}
 use Prim.Native.Nat.{ℕ, ◌-◌}
 use native.Mathlib.Omega.{arith}

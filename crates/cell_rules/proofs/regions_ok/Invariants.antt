@@ -1,5 +1,4 @@
--- `cell_rules::regions_ok` meets its contract. The loop's invariant: the flag says whether every region passed keeps the rules.
--- Assumes nothing.
+-- The loop's invariant: the flag says whether every region passed keeps the rules.
 use mathlib.Core.Path.{◌≡◌}
 use Prim.Native.Nat.{◌≤◌, ◌-◌}
 use Rattle.base.specs.Lists.{all}

@@ -1,5 +1,4 @@
--- `comms::is_locked_but` meets its contract. The loop's invariant: the flag says whether an active cell from i up, other than the given one,
--- is locked. Assumes nothing.
+-- `comms::is_locked_but` meets its contract, by the loop's invariant. Assumes nothing.
 use mathlib.Core.Path.{◌≡◌, refl, ap, ◌∙◌}
 use mathlib.Core.Bool.{Bool, true, false, not, ◌&&◌}
 use Prim.Native.Nat.{ℕ, ◌-◌, ◌<◌, ◌≤◌}

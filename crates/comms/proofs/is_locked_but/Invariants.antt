@@ -1,5 +1,4 @@
--- `comms::is_locked_but` meets its contract. The loop's invariant: the flag says whether an active cell from i up, other than the given one,
--- is locked. Assumes nothing.
+-- The loop's invariant: the flag says whether an active cell from i up, other than the given one, is locked.
 use mathlib.Core.Path.{◌≡◌}
 use mathlib.Core.Bool.{Bool, not, ◌&&◌}
 use Prim.Native.Nat.{ℕ, ◌-◌, ◌≤◌}

@@ -1,4 +1,4 @@
--- `comms::locked` meets its contract. The loop's invariant: the set has the IDs below i of the cells that have locked the configuration. Assumes nothing.
+-- The loop's invariant: the set has the IDs below i of the cells that have locked the configuration.
 use Prim.Native.Nat.{◌-◌}
 use Rattle.comms.specs.Sets.{has_locked}
 use Rattle.comms.proofs.Sets.{Gathers}

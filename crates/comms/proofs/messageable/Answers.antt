@@ -1,4 +1,4 @@
--- `comms::messageable` meets its contract. The loop's invariant: the set has the IDs below i of the cells that may be messaged. Assumes nothing.
+-- `comms::messageable` meets its contract, by the loop's invariant. Assumes nothing.
 use mathlib.Core.Path.{◌≡◌, sym, ap, ◌∙◌}
 use mathlib.Core.Bool.{Bool, not, ◌&&◌, true≢false}
 use Prim.Native.Nat.{ℕ, ◌-◌, ◌<◌, ◌≤◌}

@@ -1,4 +1,4 @@
--- `comms::messageable` meets its contract. The loop's invariant: the set has the IDs below i of the cells that may be messaged. Assumes nothing.
+-- The loop's invariant: the set has the IDs below i of the cells that may be messaged.
 use Prim.Native.Nat.{◌-◌}
 use Rattle.rules.specs.Asking.{may_be_messaged}
 use Rattle.comms.proofs.Sets.{Gathers}

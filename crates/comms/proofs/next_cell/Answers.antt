@@ -1,4 +1,4 @@
--- `comms::next_cell` meets its contract. The loop's invariant: the number is the first cell to message from i up. Assumes nothing.
+-- `comms::next_cell` meets its contract, by the loop's invariant. Assumes nothing.
 use mathlib.Core.Path.{ap₂, ◌∙◌}
 use mathlib.Core.Bool.{Bool, ◌&&◌}
 use Prim.Native.Nat.{◌-◌, ◌<◌, ◌≤◌}

@@ -1,4 +1,4 @@
--- `comms::next_cell` meets its contract. The loop's invariant: the number is the first cell to message from i up. Assumes nothing.
+-- The loop's invariant: the number is the first cell to message from i up.
 use mathlib.Core.Path.{◌≡◌}
 use mathlib.Core.Bool.{Bool, ◌&&◌}
 use Prim.Native.Nat.{ℕ, ◌-◌, ◌≤◌}

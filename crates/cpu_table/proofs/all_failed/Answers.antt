@@ -1,5 +1,4 @@
--- `cpu_table::all_failed` meets its contract. The loop's invariant: the flag says whether every CPU passed that is in the set
--- is failed in the table where `also` is. Assumes nothing.
+-- `cpu_table::all_failed` meets its contract, by the loop's invariant. Assumes nothing.
 use Rattle.std.proofs.Common.{◌≡◌, ℕ, ◌-◌, Bool, not, ◌||◌, set, ap, ◌∙◌, ap₂, arith, rules}
 use Rattle.base.specs.Lists.{all, up_to}
 use Rattle.base.proofs.Lists.{all-up_to-turn, all-up_to-none}

@@ -1,5 +1,4 @@
--- `cpu_table::all_failed` meets its contract. The loop's invariant: the flag says whether every CPU passed that is in the set
--- is failed in the table where `also` is. Assumes nothing.
+-- The loop's invariant: the flag says whether every CPU passed that is in the set is failed in the table where `also` is.
 use Rattle.std.proofs.Common.{◌≡◌, ℕ, ◌-◌, ◌≤◌, Bool, not, ◌||◌, List, set}
 use Rattle.base.specs.Lists.{all, up_to}
 use Rattle.cpu_set.specs.CpuSet.{member}

@@ -1,5 +1,4 @@
--- `cpu_table::change_cpus` meets its contract. The loop's invariant: the CPUs passed are changed, the others as they were.
--- Assumes nothing.
+-- `cpu_table::change_cpus` meets its contract, by the loop's invariant. Assumes nothing.
 use Rattle.std.proofs.Common.{◌-◌, arith, rules}
 use Rattle.base.proofs.Lists.{mapped-none, mapped-more, mapped-all}
 use Rattle.machine_state.specs.Machine.{past_cpu}

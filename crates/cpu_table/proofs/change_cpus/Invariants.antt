@@ -1,5 +1,4 @@
--- `cpu_table::change_cpus` meets its contract. The loop's invariant: the CPUs passed are changed, the others as they were.
--- Assumes nothing.
+-- The loop's invariant: the CPUs passed are changed, the others as they were.
 use Rattle.std.proofs.Common.{◌-◌, ◌≤◌}
 use Rattle.base.proofs.Lists.{Mapped}
 use Rattle.machine_state.specs.Machine.{past_cpu}

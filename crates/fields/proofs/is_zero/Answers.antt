@@ -1,5 +1,4 @@
--- `fields::is_zero` meets its contract. The loop's invariant: the flag says whether every byte passed is zero.
--- The measure is what is left of the length. Assumes nothing.
+-- `fields::is_zero` meets its contract, by the loop's invariant. Assumes nothing.
 use mathlib.Core.Path.{refl, ap, ◌∙◌}
 use lib.Seq.{take_all}
 use Rattle.base.specs.Lists.{all}

@@ -1,5 +1,4 @@
--- `fields::is_zero` meets its contract. The loop's invariant: the flag says whether every byte passed is zero.
--- The measure is what is left of the length. Assumes nothing.
+-- The loop's invariant: the flag says whether every byte passed is zero. The measure is what is left of the length.
 use mathlib.Core.Path.{◌≡◌}
 use Prim.Native.Nat.{◌≤◌, ◌-◌}
 use lib.ListN.{length, take}

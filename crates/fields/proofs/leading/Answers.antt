@@ -1,5 +1,4 @@
--- `fields::leading` meets its contract. The loop's invariant: the bytes passed and those 0x21..0x7e that follow make the whole count.
--- Assumes nothing.
+-- `fields::leading` meets its contract, by the loop's invariant. Assumes nothing.
 use mathlib.Core.Path.{sym, ◌∙◌}
 use native.Mathlib.Nat.{zero-add}
 use Rattle.fields.proofs.Laws.{leading-more, leading-stop, leading_end}

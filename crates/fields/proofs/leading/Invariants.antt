@@ -1,5 +1,4 @@
--- `fields::leading` meets its contract. The loop's invariant: the bytes passed and those 0x21..0x7e that follow make the whole count.
--- Assumes nothing.
+-- The loop's invariant: the bytes passed and those 0x21..0x7e that follow make the whole count.
 use mathlib.Core.Path.{◌≡◌}
 use Prim.Native.Nat.{◌≤◌, ◌-◌, ◌+◌}
 use lib.ListN.{length, drop}

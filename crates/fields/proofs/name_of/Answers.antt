@@ -1,5 +1,4 @@
--- `fields::name_of` meets its contract. The loop's invariant: the bytes passed are copied. At the end the 32 bytes agree at each place.
--- Assumes nothing.
+-- `fields::name_of` meets its contract, by the loop's invariant. At the end the 32 bytes agree at each place. Assumes nothing.
 use mathlib.Core.Path.{refl, ◌∙◌}
 use native.Mathlib.Omega.{arith}
 use borrow.Author.Count.{below_none, below_more}

@@ -1,5 +1,4 @@
--- `fields::name_of` meets its contract. The loop's invariant: the bytes passed are copied. At the end the 32 bytes agree at each place.
--- Assumes nothing.
+-- The loop's invariant: the bytes passed are copied.
 use mathlib.Core.Path.{◌≡◌}
 use Prim.Native.Nat.{ℕ, ◌≤◌, ◌<◌, ◌-◌}
 use lib.ListN.{length, get_or}

@@ -1,5 +1,5 @@
--- `live_cells::conflicts_one` meets its contract. The loop's invariant: the flag says whether a region passed is in conflict with s. The array has
--- as many elements as places, so the loop passes those that the count names. Assumes nothing.
+-- `live_cells::conflicts_one` meets its contract, by the loop's invariant. The array has as many elements as places, so the loop passes those that the
+-- count names. Assumes nothing.
 use mathlib.Core.Path.{◌≡◌, ap, ◌∙◌}
 use Prim.Native.Nat.{◌-◌}
 use native.Mathlib.Omega.{arith}

@@ -1,5 +1,4 @@
--- `live_cells::conflicts_one` meets its contract. The loop's invariant: the flag says whether a region passed is in conflict with s. The array has
--- as many elements as places, so the loop passes those that the count names. Assumes nothing.
+-- The loop's invariant: the flag says whether a region passed is in conflict with s.
 use mathlib.Core.Path.{◌≡◌}
 use mathlib.Core.Bool.{Bool}
 use Prim.Native.Nat.{◌≤◌, ◌-◌}

@@ -1,4 +1,4 @@
--- `live_cells::look_through` meets its contract: the loop takes one ID after another out of those to look at. Assumes nothing.
+-- `live_cells::look_through` meets its contract: a look adds what it finds of one cell. Assumes nothing.
 use mathlib.Core.Path.{sym, ap, ◌∙◌}
 use mathlib.Core.List.{List}
 use native.Mathlib.Omega.{arith}

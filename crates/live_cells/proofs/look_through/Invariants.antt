@@ -1,4 +1,4 @@
--- `live_cells::look_through` meets its contract: the loop takes one ID after another out of those to look at. Assumes nothing.
+-- The loop takes one ID after another out of those to look at, so that fewer are left with each turn.
 use mathlib.Core.Path.{◌≡◌}
 use Rattle.machine_state.specs.declared.Machine.{Machine}
 use Rattle.id_set.specs.Ids.{id_count}

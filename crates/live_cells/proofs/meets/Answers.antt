@@ -1,5 +1,4 @@
--- `live_cells::meets` meets its contract. The loop's invariant: the flag says whether a region of the record that was passed is in conflict with
--- one of the cell's. Whichever of the two is looked at first, the same pairs are. Assumes nothing.
+-- `live_cells::meets` meets its contract, by the loop's invariant. Whichever of the two is looked at first, the same pairs are. Assumes nothing.
 use mathlib.Core.Path.{◌≡◌, sym, ap, ◌∙◌}
 use Prim.Native.Nat.{ℕ, ◌-◌}
 use native.Mathlib.Omega.{arith}

@@ -1,5 +1,4 @@
--- `live_cells::meets` meets its contract. The loop's invariant: the flag says whether a region of the record that was passed is in conflict with
--- one of the cell's. Whichever of the two is looked at first, the same pairs are. Assumes nothing.
+-- The loop's invariant: the flag says whether a region of the record that was passed is in conflict with one of the cell's.
 use mathlib.Core.Path.{◌≡◌}
 use mathlib.Core.Bool.{Bool}
 use mathlib.Core.List.{List}

@@ -1,3 +1,4 @@
+-- `log_test::blocks` is safe and ends. The turns are counted down. Assumes nothing.
 use Rattle.std.proofs.Common.{length, ◌≤◌}
 use Rattle.log_test.proofs.blocks.Given as goal
 

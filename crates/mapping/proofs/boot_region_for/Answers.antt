@@ -1,5 +1,4 @@
--- `mapping::boot_region_for` meets its contract. The loop's invariant: the region wanted is the first one that has the page among those not
--- passed. Assumes nothing.
+-- `mapping::boot_region_for` meets its contract, by the loop's invariant. Assumes nothing.
 use mathlib.Core.Path.{refl, sym, ◌∙◌}
 use Prim.Native.Nat.{◌-◌}
 use Rattle.mapping.proofs.Laws.{region-here, region-next, region-none}

@@ -1,5 +1,4 @@
--- `mapping::boot_region_for` meets its contract. The loop's invariant: the region wanted is the first one that has the page among those not
--- passed. Assumes nothing.
+-- The loop's invariant: the region wanted is the first one that has the page among those not passed.
 use mathlib.Core.Path.{◌≡◌}
 use Prim.Native.Nat.{◌≤◌, ◌-◌}
 use lib.ListN.{take, drop}

@@ -1,5 +1,5 @@
--- `pages::look_at` meets its contract. The loop's invariant: the flags say of the regions passed what the sight says of all. The array has as
--- many elements as places, so the loop passes those that the count names. Assumes nothing.
+-- `pages::look_at` meets its contract, by the loop's invariant. The array has as many elements as places, so the loop passes those that the count names.
+-- Assumes nothing.
 use mathlib.Core.Path.{refl}
 use Prim.Native.Nat.{◌<◌, ◌-◌}
 use native.Mathlib.Omega.{arith}

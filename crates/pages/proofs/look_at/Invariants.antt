@@ -1,5 +1,4 @@
--- `pages::look_at` meets its contract. The loop's invariant: the flags say of the regions passed what the sight says of all. The array has as
--- many elements as places, so the loop passes those that the count names. Assumes nothing.
+-- The loop's invariant: the flags say of the regions passed what the sight says of all.
 use Prim.Native.Nat.{◌≤◌, ◌-◌}
 use lib.ListN.{take}
 use Rattle.pages.specs.Seen.{Sees}

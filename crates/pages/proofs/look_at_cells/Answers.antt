@@ -1,4 +1,4 @@
--- `pages::look_at_cells` meets its contract. The loop's invariant: what is found is found of the cells from i up. Assumes nothing.
+-- `pages::look_at_cells` meets its contract, by the loop's invariant. Assumes nothing.
 use Prim.Native.Nat.{◌≤◌, ◌<◌}
 use native.Mathlib.Omega.{arith}
 use Rattle.pages.proofs.Laws.{found_none, found-more, found-owner, found_all}

@@ -1,4 +1,4 @@
--- `pages::look_at_cells` meets its contract. The loop's invariant: what is found is found of the cells from i up. Assumes nothing.
+-- The loop's invariant: what is found is found of the cells from i up.
 use Prim.Native.Nat.{◌≤◌}
 use mathlib.Core.Path.{◌≡◌}
 use Rattle.machine_state.specs.declared.Machine.{Machine}

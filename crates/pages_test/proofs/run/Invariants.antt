@@ -1,3 +1,4 @@
+-- `pages_test::run` is safe and ends. The turns are counted down. Assumes nothing.
 use Rattle.std.proofs.Common.{length, ◌≤◌}
 use Rattle.pages_test.proofs.run.Given as goal
 

@@ -1,3 +1,4 @@
+-- `random_test::events` is safe and ends. The events are counted down, and the counts keep their number. Assumes nothing.
 use Rattle.std.proofs.Common.{length, ◌≤◌, ◌≡◌}
 use Rattle.random_test.proofs.events.Given as goal
 

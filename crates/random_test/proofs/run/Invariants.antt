@@ -1,3 +1,4 @@
+-- `random_test::run` is safe and ends. The machines are counted down. Assumes nothing.
 use Rattle.std.proofs.Common.{length, ◌≤◌, ◌≡◌}
 use Rattle.random_test.proofs.run.Given as goal
 

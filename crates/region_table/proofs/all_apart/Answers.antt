@@ -1,5 +1,4 @@
--- `region_table::all_apart` meets its contract. The loop's invariant: the flag says whether every two regions passed are apart.
--- Assumes nothing.
+-- `region_table::all_apart` meets its contract, by the loop's invariant. Assumes nothing.
 use mathlib.Core.Path.{◌≡◌, ap, ◌∙◌}
 use Prim.Native.Nat.{ℕ, ◌-◌}
 use native.Mathlib.Omega.{arith}

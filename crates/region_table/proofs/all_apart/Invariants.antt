@@ -1,5 +1,4 @@
--- `region_table::all_apart` meets its contract. The loop's invariant: the flag says whether every two regions passed are apart.
--- Assumes nothing.
+-- The loop's invariant: the flag says whether every two regions passed are apart.
 use mathlib.Core.Path.{◌≡◌}
 use Prim.Native.Nat.{◌≤◌, ◌-◌}
 use Rattle.base.specs.Lists.{pairwise}

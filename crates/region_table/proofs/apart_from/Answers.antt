@@ -1,5 +1,4 @@
--- `region_table::apart_from` meets its contract. The loop's invariant: the flag says whether every region passed is apart from r.
--- Assumes nothing.
+-- `region_table::apart_from` meets its contract, by the loop's invariant. Assumes nothing.
 use mathlib.Core.Path.{◌≡◌, ap, ◌∙◌}
 use Prim.Native.Nat.{ℕ, ◌-◌}
 use native.Mathlib.Omega.{arith}

@@ -1,5 +1,4 @@
--- `region_table::apart_from` meets its contract. The loop's invariant: the flag says whether every region passed is apart from r.
--- Assumes nothing.
+-- The loop's invariant: the flag says whether every region passed is apart from r.
 use mathlib.Core.Path.{◌≡◌}
 use Prim.Native.Nat.{◌≤◌, ◌-◌}
 use Rattle.base.specs.Lists.{all}

@@ -1,5 +1,5 @@
--- `region_table::has_comm` meets its contract. The loop's invariant: the flag says whether a region passed is a communication region.
--- The array has as many elements as places, so the loop passes those that the count names. Assumes nothing.
+-- `region_table::has_comm` meets its contract, by the loop's invariant. The array has as many elements as places, so the loop passes those that the
+-- count names. Assumes nothing.
 use mathlib.Core.Path.{ap, ◌∙◌}
 use Prim.Native.Nat.{◌-◌}
 use native.Mathlib.Omega.{arith}

@@ -1,5 +1,4 @@
--- `region_table::has_comm` meets its contract. The loop's invariant: the flag says whether a region passed is a communication region.
--- The array has as many elements as places, so the loop passes those that the count names. Assumes nothing.
+-- The loop's invariant: the flag says whether a region passed is a communication region.
 use mathlib.Core.Path.{◌≡◌}
 use Prim.Native.Nat.{◌≤◌, ◌-◌}
 use lib.ListN.{take}

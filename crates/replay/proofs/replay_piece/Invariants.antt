@@ -1,3 +1,4 @@
+-- `replay::replay_piece` is safe and ends. Every turn takes some of the piece. Assumes nothing.
 use Rattle.std.proofs.Common.{length, ◌-◌, ◌≤◌}
 use Rattle.replay.proofs.replay_piece.Given as goal
 

@@ -1,4 +1,4 @@
--- `replay_log::append` meets its contract. The loop's invariant: the bytes passed stand behind the line's. Assumes nothing.
+-- `replay_log::append` meets its contract, by the loop's invariant. Assumes nothing.
 use mathlib.Core.Path.{◌≡◌, sym, ap, ◌∙◌}
 use mathlib.Core.List.{List, ◌++◌}
 use Prim.Native.Nat.{ℕ, ◌≤◌, ◌<◌, ◌-◌, ◌+◌, min}

@@ -1,4 +1,4 @@
--- `replay_log::append` meets its contract. The loop's invariant: the bytes passed stand behind the line's. Assumes nothing.
+-- The loop's invariant: the bytes passed stand behind the line's.
 use mathlib.Core.Path.{◌≡◌}
 use Prim.Native.Nat.{◌≤◌, ◌-◌}
 use lib.Seq.{paste}

@@ -1,5 +1,4 @@
--- `replay_log::line_end` meets its contract. The loop's invariant: the bytes passed and those before the next line feed make the whole
--- count. Assumes nothing.
+-- `replay_log::line_end` meets its contract, by the loop's invariant. Assumes nothing.
 use mathlib.Core.Path.{refl, sym, ◌∙◌}
 use Prim.Native.Nat.{◌-◌}
 use Rattle.replay_log.proofs.Laws.{length_more, length-stop, length-end}

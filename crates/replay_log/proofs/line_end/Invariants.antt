@@ -1,5 +1,4 @@
--- `replay_log::line_end` meets its contract. The loop's invariant: the bytes passed and those before the next line feed make the whole
--- count. Assumes nothing.
+-- The loop's invariant: the bytes passed and those before the next line feed make the whole count.
 use mathlib.Core.Path.{◌≡◌}
 use Prim.Native.Nat.{◌≤◌, ◌-◌, ◌+◌}
 use lib.ListN.{length, drop}

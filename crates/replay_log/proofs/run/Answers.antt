@@ -1,6 +1,4 @@
--- `replay_log::run` meets its contract. The loop's invariant: the places are inside, the tables keep their sizes, and the run stands where the log up to
--- `at`, fed to what was kept, stands once what is left of the last line is done (`Stands`). Each arm does one part of it, and is one law of
--- `Turns`; the measure counts the bytes left and the parts left of the last line (`Ranks`). Assumes nothing.
+-- `replay_log::run` meets its contract: each arm does one part of what is left of the last line, and is one law of `Turns`. Assumes nothing.
 use mathlib.Core.Path.{◌≡◌, refl, sym, ap, subst, ◌∙◌}
 use mathlib.Core.Bool.{◌&&◌}
 use mathlib.Core.List.{List, []}

@@ -1,6 +1,5 @@
--- `replay_log::run` meets its contract. The loop's invariant: the places are inside, the tables keep their sizes, and the run stands where the log up to
--- `at`, fed to what was kept, stands once what is left of the last line is done (`Stands`). Each arm does one part of it, and is one law of
--- `Turns`; the measure counts the bytes left and the parts left of the last line (`Ranks`). Assumes nothing.
+-- The loop's invariant: the places are inside, the tables keep their sizes, and the run stands where the log up to `at`, fed to what was kept, stands
+-- once what is left of the last line is done (`Stands`). The measure counts the bytes left and the parts left of the last line (`Ranks`).
 use mathlib.Core.List.{List, []}
 use Prim.Native.Nat.{ℕ, ◌-◌}
 use lib.ListN.{length, take}

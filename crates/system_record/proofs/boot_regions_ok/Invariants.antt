@@ -1,5 +1,4 @@
--- `system_record::boot_regions_ok` meets its contract. The loop's invariant: the flag says whether every region passed keeps the rules.
--- Assumes nothing.
+-- The loop's invariant: the flag says whether every region passed keeps the rules.
 use mathlib.Core.Path.{◌≡◌}
 use mathlib.Core.Bool.{Bool}
 use Prim.Native.Nat.{◌≤◌, ◌-◌}

@@ -1,4 +1,4 @@
--- `system_record::boot_table` meets its contract. The loop's invariant: the table holds the first i regions of the record. Assumes nothing.
+-- `system_record::boot_table` meets its contract, by the loop's invariant. Assumes nothing.
 use mathlib.Core.Path.{refl, ◌∙◌}
 use Prim.Native.Nat.{◌-◌}
 use native.Mathlib.Omega.{arith}

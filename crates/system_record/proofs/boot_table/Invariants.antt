@@ -1,4 +1,4 @@
--- `system_record::boot_table` meets its contract. The loop's invariant: the table holds the first i regions of the record. Assumes nothing.
+-- The loop's invariant: the table holds the first i regions of the record.
 use mathlib.Core.Path.{◌≡◌}
 use Prim.Native.Nat.{◌≤◌, ◌-◌}
 use lib.ListN.{length}

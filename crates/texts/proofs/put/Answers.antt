@@ -1,5 +1,4 @@
--- `texts::put` meets its contract. The loop's invariant: the bytes passed are written. The measure is what is left of the text.
--- Assumes nothing.
+-- `texts::put` meets its contract, by the loop's invariant. Assumes nothing.
 use mathlib.Core.Path.{◌∙◌}
 use Prim.Native.Nat.{◌-◌}
 use lib.ListN.{length-set}

@@ -1,5 +1,4 @@
--- `lines::hex::decode` meets its contract. The loop's invariant: the start of `out` holds the bytes made so far, the rest is as it was.
--- Assumes nothing.
+-- `lines::hex::decode` meets its contract, by the loop's invariant. Assumes nothing.
 use mathlib.Core.Path.{refl, ◌∙◌}
 use Prim.Native.Nat.{◌-◌, ◌+◌, ◌*◌}
 use native.Mathlib.Omega.{arith}

@@ -1,5 +1,4 @@
--- `lines::hex::decode` meets its contract. The loop's invariant: the start of `out` holds the bytes made so far, the rest is as it was.
--- Assumes nothing.
+-- The loop's invariant: the start of `out` holds the bytes made so far, the rest is as it was.
 use mathlib.Core.Path.{◌≡◌}
 use mathlib.Core.List.{◌++◌}
 use Prim.Native.Nat.{◌≤◌, ◌-◌, ◌+◌}

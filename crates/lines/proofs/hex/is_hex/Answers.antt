@@ -1,4 +1,4 @@
--- `lines::hex::is_hex` meets its contract. The loop's invariant: the flag says whether every byte passed is a digit. Assumes nothing.
+-- `lines::hex::is_hex` meets its contract, by the loop's invariant. Assumes nothing.
 use Prim.Native.Nat.{◌-◌}
 use Rattle.base.proofs.Lists.{all-turn, all_none}
 use Rattle.lines.specs.Lines.{is_hex_digit}

@@ -1,4 +1,4 @@
--- `lines::hex::is_hex` meets its contract. The loop's invariant: the flag says whether every byte passed is a digit. Assumes nothing.
+-- The loop's invariant: the flag says whether every byte passed is a digit.
 use mathlib.Core.Path.{◌≡◌}
 use Prim.Native.Nat.{◌-◌}
 use lib.ListN.{length, take}

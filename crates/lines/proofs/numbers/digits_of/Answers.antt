@@ -1,5 +1,4 @@
--- `lines::numbers::digits_of` meets its contract. The loop's invariant: the number read so far, with the digits that are left, is the
--- whole. Assumes nothing.
+-- `lines::numbers::digits_of` meets its contract, by the loop's invariant. Assumes nothing.
 use mathlib.Core.Path.{refl, ◌∙◌}
 use Prim.Native.Nat.{◌-◌}
 use borrow.Author.Tests.{not-true, not-false}

@@ -1,5 +1,4 @@
--- `lines::numbers::digits_of` meets its contract. The loop's invariant: the number read so far, with the digits that are left, is the
--- whole. Assumes nothing.
+-- The loop's invariant: the number read so far, with the digits that are left, is the whole.
 use mathlib.Core.Path.{◌≡◌}
 use Prim.Native.Nat.{◌-◌, ◌<◌, ◌^◌}
 use lib.ListN.{length, drop}

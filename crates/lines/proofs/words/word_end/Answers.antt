@@ -1,5 +1,4 @@
--- `lines::words::word_end` meets its contract. The loop's invariant: the word that begins at i ends where the one at the start does.
--- Assumes nothing.
+-- `lines::words::word_end` meets its contract, by the loop's invariant. Assumes nothing.
 use mathlib.Core.Path.{refl, sym, ◌∙◌}
 use Prim.Native.Nat.{◌-◌}
 use Rattle.lines.proofs.WordLaws.{end_more, end-stop, end-past}

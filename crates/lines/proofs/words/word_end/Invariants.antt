@@ -1,5 +1,4 @@
--- `lines::words::word_end` meets its contract. The loop's invariant: the word that begins at i ends where the one at the start does.
--- Assumes nothing.
+-- The loop's invariant: the word that begins at i ends where the one at the start does.
 use mathlib.Core.Path.{◌≡◌}
 use Prim.Native.Nat.{◌-◌}
 use lib.ListN.{length}

@@ -1,3 +1,4 @@
+-- `log_test::show::show_all` is safe and ends. The turns are counted down. Assumes nothing.
 use Rattle.std.proofs.Common.{length, ◌≤◌}
 use Rattle.log_test.proofs.show.show_all.Given as goal
 

@@ -1,3 +1,4 @@
+-- `random_test::counts::print` is safe and ends. The kinds are counted up. Assumes nothing.
 use Rattle.std.proofs.Common.{length, ◌≤◌, ◌-◌}
 use Rattle.random_test.proofs.counts.print.Given as goal
 
