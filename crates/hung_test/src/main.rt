@@ -5,23 +5,23 @@
 #![tactic(auto)]
 
 use std::fs;
-use test_support::{streams, text};
+use test_support::{console, text};
 
 fn main(rt: HostRuntime) {
     let mut record = [0u8; 4096];
     // The file stays open while the log is read.
     let mut opened = fs::open(&rt, "system.tss");
     let n = match &mut opened {
-        Ok(file) => streams::read_full(file, &mut record),
+        Ok(file) => console::read_full(file, &mut record),
         Err(_) => 0,
     };
     let booted = machine_state::boot(text::first(&record, n));
-    let mut out = streams::large_buffer();
+    let mut out = console::large_buffer();
     let k = texts::put_boot(booted.code, &mut out);
-    streams::write_all(&rt, text::first(&out, k));
+    console::write_all(&rt, text::first(&out, k));
     let machine = booted.machine;
-    let mut log = streams::large_buffer();
-    let len = streams::read_full(&mut rt.stdin(), &mut log);
+    let mut log = console::large_buffer();
+    let len = console::read_full(&mut rt.stdin(), &mut log);
     let ran = replay_log::run(replay_log::start(machine), text::first(&log, len), &mut out);
-    streams::write_all(&rt, text::first(&out, ran.written));
+    console::write_all(&rt, text::first(&out, ran.written));
 }

@@ -12,7 +12,7 @@ mod show;
 
 use machine_state::Machine;
 use test_support::cases::Tally;
-use test_support::{cases, streams, text};
+use test_support::{cases, console, text};
 
 // How far a script has come: the machine that the last block left, the cases, and the next block.
 #[derive(Clone, Copy)]
@@ -29,7 +29,7 @@ fn room() -> [u8; 262144] {
 
 fn main(rt: HostRuntime) {
     let mut s = room();
-    let n = streams::read_full(&mut rt.stdin(), &mut s);
+    let n = console::read_full(&mut rt.stdin(), &mut s);
     cases::total(&rt, blocks(&rt, &s[..n]));
 }
 

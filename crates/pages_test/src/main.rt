@@ -25,7 +25,7 @@ mod show;
 use lines::{MAX_LINE, MAX_RECORD};
 use machine_state::{Event, Machine};
 use test_support::cases::Tally;
-use test_support::{cases, expand, names, streams, text};
+use test_support::{cases, console, expand, names, text};
 
 // How far a script has come.
 #[derive(Clone, Copy)]
@@ -36,8 +36,8 @@ struct Progress {
 }
 
 fn main(rt: HostRuntime) {
-    let mut script = streams::large_buffer();
-    let n = streams::read_full(&mut rt.stdin(), &mut script);
+    let mut script = console::large_buffer();
+    let n = console::read_full(&mut rt.stdin(), &mut script);
     cases::total(&rt, run(&rt, &script[..n]));
 }
 

@@ -1,7 +1,7 @@
 // How often each kind of answer came. The script's lines `answer ..` name the kinds in this order.
 use crate::lines_made::nth;
 use machine_state::Answer;
-use test_support::{cases, streams};
+use test_support::{cases, console};
 
 pub(crate) const KINDS: usize = 23;
 
@@ -58,9 +58,9 @@ pub(crate) fn kind_of_boot(code: i32) -> usize {
 
 // A kind with its count. Each kind that document 01 names has to come, and no other may.
 fn print_kind(rt: &impl Print, name: &[u8], n: u64, comes: bool) {
-    streams::write_all(rt, name);
-    streams::write_all(rt, b": ");
-    streams::print_decimal(rt, n);
+    console::write_all(rt, name);
+    console::write_all(rt, b": ");
+    console::print_decimal(rt, n);
     if comes == (n == 0) {
         cases::remark(rt, b"   WRONG");
     } else {

@@ -17,7 +17,7 @@ mod view;
 use lines::MAX_RECORD;
 use lines_made::{LOG, nth};
 use machine_state::{Booted, Machine, Stepped};
-use test_support::{streams, text};
+use test_support::{console, text};
 
 // How many machines are run, and how many events each of them meets.
 const MACHINES: usize = 77;
@@ -46,8 +46,8 @@ struct Going {
 }
 
 fn main(rt: HostRuntime) {
-    let mut script = streams::large_buffer();
-    let n = streams::read_full(&mut rt.stdin(), &mut script);
+    let mut script = console::large_buffer();
+    let n = console::read_full(&mut rt.stdin(), &mut script);
     run(&rt, &script[..n]);
 }
 
@@ -68,8 +68,8 @@ fn run(rt: &impl Print, script: &[u8]) {
         left -= 1;
     }
     counts::print(rt, &counts, script);
-    streams::print_decimal(rt, t.broken);
-    streams::write_all(rt, b" broken claims\n");
+    console::print_decimal(rt, t.broken);
+    console::write_all(rt, b" broken claims\n");
 }
 
 // The next machine: the script's list `system` has the records, some of which are refused.
@@ -153,8 +153,8 @@ fn told(rt: &impl Print, broken: u64, script: &[u8], claim: u64, line: &[u8]) ->
     if claim == 0 {
         return broken;
     }
-    streams::write_all(rt, nth(script, b"claim", claim));
-    streams::write_all(rt, b": ");
-    streams::write_all(rt, line);
+    console::write_all(rt, nth(script, b"claim", claim));
+    console::write_all(rt, b": ");
+    console::write_all(rt, line);
     std::num::wrapping_add_u64(broken, 1)
 }

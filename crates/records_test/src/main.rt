@@ -10,7 +10,7 @@
 
 use test_support::cases::Tally;
 use test_support::records::Record;
-use test_support::{cases, records, streams, text, words};
+use test_support::{cases, console, records, text, words};
 
 // What a line leaves for the next: the records that system and cell lines start from, the system
 // that cells are read in, and the cases so far.
@@ -23,8 +23,8 @@ struct Kept {
 }
 
 fn main(rt: HostRuntime) {
-    let mut table = streams::large_buffer();
-    let n = streams::read_full(&mut rt.stdin(), &mut table);
+    let mut table = console::large_buffer();
+    let n = console::read_full(&mut rt.stdin(), &mut table);
     cases::total(&rt, run(&rt, &table[..n]));
 }
 

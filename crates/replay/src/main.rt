@@ -5,7 +5,7 @@
 // cannot be read or written is said on standard error, and nowhere else.
 #![tactic(auto)]
 
-mod streams;
+mod errors;
 
 ghost use Rattle.std.specs.Prelude.{◌≤◌, length};
 
@@ -35,7 +35,7 @@ fn system_bytes(rt: &(impl Files + Eprint), bytes: &mut [u8]) -> usize
     let mut file = match fs::open(rt, "system.tss") {
         Ok(file) => file,
         Err(e) => {
-            streams::fail(
+            errors::fail(
                 rt,
                 "replay: system.tss cannot be opened, so the system record is empty",
                 e,
@@ -46,7 +46,7 @@ fn system_bytes(rt: &(impl Files + Eprint), bytes: &mut [u8]) -> usize
     let mut why = streams::no_error();
     let n = streams::read_full(&mut file, bytes, &mut why);
     if !is_read(&mut file, n, bytes.len(), &mut why) {
-        streams::fail(
+        errors::fail(
             rt,
             "replay: system.tss cannot be read, so the system record is empty",
             why,
@@ -63,7 +63,7 @@ fn wrote(rt: &(impl Print + Eprint), out: &[u8], n: usize) -> bool {
     if streams::write_all(rt, text, &mut why) {
         return true;
     }
-    streams::fail(
+    errors::fail(
         rt,
         "replay: the answers cannot be written, so the replay stops here",
         why,
@@ -101,7 +101,7 @@ fn replay_some<R: Read>(
 ) -> Went {
     let mut why = streams::no_error();
     let Some(n) = streams::read_once(input, piece, &mut why) else {
-        streams::fail(
+        errors::fail(
             rt,
             "replay: the log breaks off here, it cannot be read further",
             why,

@@ -1,6 +1,6 @@
 // A case is a line of a script with the answer that document 01 gives, `LINE > ANSWER`. It is
 // printed with the answer that came, and marked where that is another.
-use crate::{names, streams, text};
+use crate::{console, names, text};
 
 // How many cases there were, and how many of them were wrong.
 #[derive(Clone, Copy)]
@@ -33,14 +33,14 @@ pub fn wanted(line: &[u8]) -> &[u8] {
 
 // Prints a remark, or another line that has no answer.
 pub fn remark(rt: &impl Print, line: &[u8]) {
-    streams::write_all(rt, line);
-    streams::write_all(rt, b"\n");
+    console::write_all(rt, line);
+    console::write_all(rt, b"\n");
 }
 
 // Prints a line that cannot be read, and counts it as wrong.
 pub fn unread(rt: &impl Print, t: Tally, line: &[u8], why: &[u8]) -> Tally {
-    streams::write_all(rt, line);
-    streams::write_all(rt, b"   ERROR: ");
+    console::write_all(rt, line);
+    console::write_all(rt, b"   ERROR: ");
     remark(rt, why);
     counted(t, false)
 }
@@ -58,8 +58,8 @@ pub fn record_line(rt: &impl Print, t: Tally, script: &[u8], line: &[u8]) -> Tal
 // Prints a case with the answer that came, and counts it.
 pub fn answered(rt: &impl Print, t: Tally, line: &[u8], answer: &[u8]) -> Tally {
     let right = check::same(answer, wanted(line));
-    streams::write_all(rt, asked(line));
-    streams::write_all(rt, b" > ");
+    console::write_all(rt, asked(line));
+    console::write_all(rt, b" > ");
     if right {
         remark(rt, answer);
     } else {
@@ -70,15 +70,15 @@ pub fn answered(rt: &impl Print, t: Tally, line: &[u8], answer: &[u8]) -> Tally 
 
 // Prints an answer that is not the one that is wanted.
 fn wrong(rt: &impl Print, answer: &[u8], wanted: &[u8]) {
-    streams::write_all(rt, answer);
-    streams::write_all(rt, b"   WRONG, expected ");
+    console::write_all(rt, answer);
+    console::write_all(rt, b"   WRONG, expected ");
     remark(rt, wanted);
 }
 
 // Prints the count.
 pub fn total(rt: &impl Print, t: Tally) {
-    streams::print_decimal(rt, t.cases);
-    streams::write_all(rt, b" cases, ");
-    streams::print_decimal(rt, t.wrong);
-    streams::write_all(rt, b" wrong\n");
+    console::print_decimal(rt, t.cases);
+    console::write_all(rt, b" cases, ");
+    console::print_decimal(rt, t.wrong);
+    console::write_all(rt, b" wrong\n");
 }

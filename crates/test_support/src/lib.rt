@@ -5,9 +5,9 @@
 #![tactic(auto)]
 
 pub mod cases;
+pub mod console;
 pub mod expand;
 pub mod names;
 pub mod records;
-pub mod streams;
 pub mod text;
 pub mod words;

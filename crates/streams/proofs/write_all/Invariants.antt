@@ -1,5 +1,6 @@
+-- The bytes written are at most all of them.
 use Rattle.std.proofs.Common.{length, ◌-◌, ◌≤◌}
-use Rattle.test_support.proofs.streams.write_all.Given as goal
+use Rattle.streams.proofs.write_all.Given as goal
 
 abbrev pub invariant-loop-done : goal.invariant-loop-done
 invariant-loop-done g l = l.done ≤ length l.bytes

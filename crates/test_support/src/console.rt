@@ -17,26 +17,14 @@ pub fn large_buffer() -> [u8; 65536]
 pub fn read_full<R: Read>(from: &mut R, bytes: &mut [u8]) -> usize
     ensures { result ≤ length bytes.new }
 {
-    let mut done = 0;
-    while done < bytes.len() {
-        match from.read(&mut bytes[done..]) {
-            Ok(0) | Err(_) => break,
-            Ok(n) => done += n,
-        }
-    }
-    done
+    let mut why = streams::no_error();
+    streams::read_full(from, bytes, &mut why)
 }
 
-// Prints bytes, up to the first write that takes nothing or fails. A call that a signal interrupts
-// before it moves a byte counts as one that failed.
+// Prints bytes, up to the first write that takes nothing or fails.
 pub fn write_all(rt: &impl Print, bytes: &[u8]) {
-    let mut done = 0;
-    while done < bytes.len() {
-        match rt.write_some(&bytes[done..]) {
-            Ok(0) | Err(_) => return,
-            Ok(n) => done += n,
-        }
-    }
+    let mut why = streams::no_error();
+    let _ = streams::write_all(rt, bytes, &mut why);
 }
 
 // Prints a number in decimals.
