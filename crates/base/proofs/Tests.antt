@@ -1,7 +1,7 @@
 -- Laws of tests: a test is true exactly where its fact holds, and two tests are equal where each gives the other.
 -- Each follows by the two cases of a test. Assumes nothing.
 use mathlib.Core.Bool.{Bool, true, false, not, ◌&&◌, ◌||◌}
-use mathlib.Core.Path.{◌≡◌, refl, sym, subst}
+use mathlib.Core.Path.{◌≡◌, refl, sym, subst, ◌∙◌}
 use mathlib.Core.Logic.{◌⊎◌, inl, inr}
 use Prim.Native.Nat.{ℕ, ◌≤◌, ◌<◌}
 use borrow.Author.Tests.{leb-true, leb-false}
@@ -23,6 +23,10 @@ is_false false f = refl
 
 pub holds : {b : Bool} → b ≡ true → T b
 holds e = subst T (sym e) tt
+
+-- what a test found is so of what it tests
+pub told : {found is t : Bool} → found ≡ is → found ≡ t → is ≡ t
+told e f = sym e ∙ f
 
 pub fails : {b : Bool} → b ≡ false → T b → ⊥
 fails e t = subst T e t
@@ -50,13 +54,6 @@ eq→eqb m n e = subst (λ (k : ℕ). T (eqb m k)) e (eqb_refl m)
 pub equal-leb : (a b c d : ℕ) → (a ≤ b → c ≤ d) → (c ≤ d → a ≤ b) → leb a b ≡ leb c d
 equal-leb a b c d f g =
     equal-tests (leb a b) (leb c d) (λ t. le→leb c d (f (leb→le a b t))) (λ t. le→leb a b (g (leb→le c d t)))
-
--- two comparisons together are a third where they give it and it gives each
-pub both-leb : (a b c d e f : ℕ) → (a ≤ b → c ≤ d → e ≤ f) → (e ≤ f → a ≤ b) → (e ≤ f → c ≤ d) → (leb a b && leb c d) ≡ leb e f
-both-leb a b c d e f p q r =
-    equal-tests (leb a b && leb c d) (leb e f)
-    (λ t. le→leb e f (p (leb→le a b (and_left (leb a b) (leb c d) t)) (leb→le c d (and_right (leb a b) (leb c d) t))))
-    (λ t. and_intro (leb a b) (leb c d) (le→leb a b (q (leb→le e f t))) (le→leb c d (r (leb→le e f t))))
 
 pub le-or-lt : (a b : ℕ) → (a ≤ b) ⊎ (b < a)
 le-or-lt a b = by-test (leb a b) refl

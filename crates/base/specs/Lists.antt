@@ -1,16 +1,16 @@
 -- Words for lists that the definitions use: "all", "some", the numbers below n, a part of a record.
-use Rattle.std.specs.Prelude.{Bool, true, false, ◌&&◌, ◌||◌, List, [], ◌∷◌, ℕ, zero, suc, eqb, take, drop}
+use Rattle.std.specs.Prelude.{Bool, true, ◌&&◌, List, [], ◌∷◌, ℕ, zero, suc, eqb, take, drop}
+use Rattle.std.specs.Cmp.Lexicographic.{pointwise}
+use Rattle.std.specs.List.{list_all, list_any}
 
-module _ {ℓ} {A : Type ℓ} where
+module _ {A : Type 0} where
   -- every element passes the test
-  unfoldable pub all : (A → Bool) → List A → Bool
-  all p [] = true
-  all p (x ∷ xs) = p x && all p xs
+  abbrev pub all : (A → Bool) → List A → Bool
+  all p xs = list_all p xs
 
   -- some element passes the test
-  unfoldable pub any : (A → Bool) → List A → Bool
-  any p [] = false
-  any p (x ∷ xs) = p x || any p xs
+  abbrev pub any : (A → Bool) → List A → Bool
+  any p xs = list_any p xs
 
   -- each element passes the test with every later one
   unfoldable pub pairwise : (A → A → Bool) → List A → Bool
@@ -31,8 +31,5 @@ abbrev pub up_to : ℕ → List ℕ
 up_to n = from 0 n
 
 -- the same numbers in the same order
-unfoldable pub same : List ℕ → List ℕ → Bool
-same [] [] = true
-same [] (y ∷ ys) = false
-same (x ∷ xs) [] = false
-same (x ∷ xs) (y ∷ ys) = eqb x y && same xs ys
+abbrev pub same : List ℕ → List ℕ → Bool
+same xs ys = pointwise eqb xs ys

@@ -19,7 +19,6 @@ use Rattle.cell_record.specs.SharedCode.{accepts, runs_shared, RefusesSharedCode
 
 -- every element passes both tests where every one passes the first and none fails the second
 all_but : (p q : MemRegion → Bool) (rs : List MemRegion) → all (λ r. p r && not (q r)) rs ≡ (all p rs && not (any q rs))
-unfolding all any
 all_but p q [] = refl
 all_but p q (r ∷ rs) = ap (λ (b : Bool). p r && not (q r) && b) (all_but p q rs) ∙ go (p r) (q r) (all p rs) (any q rs)
   where

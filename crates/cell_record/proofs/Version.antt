@@ -11,7 +11,7 @@ use Rattle.fields.specs.Fields.{little_endian, field, u16, is_zero, zeros}
 use Rattle.cell_record.specs.CellRecord.{cell_of, limit_ok}
 
 all-zero : (bs : List ℕ) → all is_zero bs ≡ true → little_endian bs ≡ 0
-unfolding all little_endian
+unfolding little_endian
 all-zero [] h = refl
 all-zero (b ∷ bs) h = go (eqb b 0) (all is_zero bs) refl (all-zero bs) h
   where
@@ -20,5 +20,5 @@ all-zero (b ∷ bs) h = go (eqb b 0) (all is_zero bs) refl (all-zero bs) h
     go false y e f t = absurd (false≢true t)
 
 pub version-1-unlimited : (r : List ℕ) → limit_ok r ≡ true → u16 4 r ≡ 1 → (cell_of r).reply_limit ≡ 0
-unfolding limit_ok cell_of zeros field
+unfolding limit_ok cell_of field
 version-1-unlimited r h v = all-zero (part 50 2 r) (sym (ap (λ (n : ℕ). eqb n 2 || zeros (part 50 2 r)) v) ∙ h)

@@ -12,7 +12,9 @@ ghost use Rattle.cell_record.specs.CellRecord.{cell_of, cell_regions};
 use region_table::MAX_REGIONS;
 use regions::MemRegion;
 
-// The values of a cell record. The reply limit is in polls, 0 for none.
+// The values of a cell record. The reply limit is in polls, 0 for none, as C-14 and its definition have
+// it. Its regions are a table with a count, as document 01's rules and the claims read them
+// (`cell_regions`), in fixed memory.
 #[derive(Clone, Copy)]
 pub struct CellConfig {
     pub name: [u8; 32],
@@ -23,7 +25,17 @@ pub struct CellConfig {
     pub regions: [MemRegion; MAX_REGIONS],
 }
 
-// The answer that the record alone gives, and the values as they stand in it.
+impl CellConfig {
+    // Its regions: those that the count names.
+    pub fn regions(&self) -> &[MemRegion]
+        ensures { result.now ≡ cell_regions self.now }
+    {
+        region_table::in_use(&self.regions, self.region_count)
+    }
+}
+
+// The answer that the record alone gives, and the values as they stand in it, whatever it is. `code` is
+// the number that document 01 fixes. One pair with its names, as the definition has it (`read_cell`).
 #[derive(Clone, Copy)]
 pub struct CellRead {
     pub code: i32,
@@ -31,6 +43,7 @@ pub struct CellRead {
 }
 
 // The name that stands in a record.
+#[tactic(auto, unfolding(crate::specs::CellRecord::cell_of))]
 pub fn name(s: &[u8]) -> [u8; 32]
     ensures { result ≡ (cell_of s.now).name }
 {
@@ -38,19 +51,18 @@ pub fn name(s: &[u8]) -> [u8; 32]
 }
 
 // The values of a record, whatever its bytes.
+#[tactic(auto, unfolding(crate::specs::CellRecord::cell_of))]
 pub fn cell_of(s: &[u8]) -> CellConfig
     ensures { result ≡ cell_of s.now }
 {
-    let count = fields::u16_at(s, 48) as usize;
-    let name = name(s);
-    let regions = cell_table(s);
+    let count = fields::u16_at(s, 48);
     CellConfig {
-        name,
+        name: name(s),
         passive: fields::u16_at(s, 6) % 2 == 1,
         reply_limit: fields::u16_at(s, 50),
         cpus: fields::u64_at(s, 40),
-        region_count: count,
-        regions,
+        region_count: count as usize,
+        regions: region_table::table_of(s, 56, count),
     }
 }
 
@@ -58,45 +70,21 @@ pub fn cell_of(s: &[u8]) -> CellConfig
 pub fn region_count(s: &[u8]) -> u16
     ensures { result ≡ min (u16_of 48 s.now) max_regions }
 {
-    let n = fields::u16_at(s, 48);
-    if (n as usize) < MAX_REGIONS {
-        n
-    } else {
-        MAX_REGIONS as u16
-    }
-}
-
-// The record's regions in a table.
-fn cell_table(s: &[u8]) -> [MemRegion; MAX_REGIONS]
-    ensures { result ≡ (cell_of s.now).regions }
-{
-    let n = region_count(s) as usize;
-    let mut table = [region_table::no_region(); MAX_REGIONS];
-    let mut i = 0;
-    while i < n {
-        table[i] = region_table::region_at(s, 56 + 32 * i);
-        i += 1;
-    }
-    table
+    fields::u16_at(s, 48).min(MAX_REGIONS as u16)
 }
 
 // Region `i` of the record.
+#[tactic(auto, unfolding(region_table::specs::Tables::region_at))]
 pub fn region(s: &[u8], i: u16) -> MemRegion
     ensures { result ≡ region_at 56 s.now i }
 {
     region_table::region_at(s, 56 + 32 * i as usize)
 }
 
-// Whether some region of the record is a communication region.
+// Whether some region of the record is a communication region. Over the bytes, and not by
+// `region_table::has_comm`: no table is made for one flag.
 pub fn has_comm(s: &[u8]) -> bool
     ensures { result ≡ any comm (cell_regions (cell_of s.now)) }
 {
-    let n = region_count(s);
-    let mut found = false;
-    let mut i = 0u16;
-    while i < n {
-        found = found | regions::is_comm(region(s, i));
-        i += 1;
-    }
-    found
+    (0..region_count(s)).any(|i| regions::is_comm(region(s, i)))
 }

@@ -1,5 +1,6 @@
 -- Fields of a record. Document 01, "Boot and cell records": "Little-endian. All unnamed bytes are zero."
-use Rattle.std.specs.Prelude.{Bool, true, false, ◌&&◌, List, [], ◌∷◌, ◌++◌, ℕ, suc, ◌+◌, ◌*◌, leb, eqb, take, drop, replicate}
+use Rattle.std.specs.Prelude.{Bool, ◌&&◌, List, [], ◌∷◌, ◌++◌, ℕ, ◌+◌, ◌*◌, leb, eqb, take, drop, replicate}
+use Rattle.std.specs.List.{prefix_len}
 use Rattle.base.specs.Lists.{all, part}
 
 -- "Little-endian": the first byte is the lowest
@@ -25,7 +26,7 @@ u64 at r = field 8 at r
 abbrev pub is_zero : ℕ → Bool
 is_zero b = eqb b 0
 
-unfoldable pub zeros : List ℕ → Bool
+abbrev pub zeros : List ℕ → Bool
 zeros bs = all is_zero bs
 
 -- "bytes 0x21..0x7e"
@@ -33,9 +34,8 @@ abbrev pub graphic : ℕ → Bool
 graphic b = leb 0x21 b && leb b 0x7e
 
 -- how many bytes 0x21..0x7e stand at the start
-unfoldable pub leading : List ℕ → ℕ
-leading [] = 0
-leading (b ∷ bs) = elim (graphic b) [ true ↦ suc (leading bs) | false ↦ 0 ]
+abbrev pub leading : List ℕ → ℕ
+leading bs = prefix_len graphic bs
 
 -- "Name: 1 to 31 bytes 0x21..0x7e, then zeros"
 unfoldable pub is_name : List ℕ → Bool

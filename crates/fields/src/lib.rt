@@ -12,139 +12,88 @@ ghost use Rattle.fields.specs.Fields.{u16, u32, u64, zeros, leading as leading_o
 pub fn part(s: &[u8], at: usize, n: usize) -> &[u8]
     ensures { result.now ≡ part_of at n s.now }
 {
-    if s.len() <= at {
-        return &s[..0];
-    }
-    if n <= s.len() - at {
-        &s[at..at + n]
-    } else {
-        &s[at..]
-    }
+    let rest = s.get(at..).unwrap_or(&[]);
+    rest.get(..n).unwrap_or(rest)
 }
 
 // The byte at an offset, 0 past the end.
 pub fn u8_at(s: &[u8], at: usize) -> u8
     ensures { result ≡ get_or s.now at 0 }
 {
-    if at < s.len() { s[at] } else { 0 }
+    s.get(at).copied().unwrap_or(0)
+}
+
+// The first `N` bytes, with zeros past the end.
+fn first_bytes<const N: usize>(s: &[u8]) -> [u8; N]
+    ensures { result ≡ padded N s.now }
+{
+    match s.first_chunk() {
+        Some(bytes) => *bytes,
+        None => std::array::from_fn(|i| u8_at(s, i)),
+    }
 }
 
 // The u16 at an offset.
 pub fn u16_at(s: &[u8], at: usize) -> u16
     ensures { result ≡ u16 at s.now }
 {
-    if s.len() <= at {
-        return 0;
-    }
-    let low = u8_at(s, at) as u16;
-    let high = u8_at(s, at + 1) as u16;
-    low + 0x100 * high
+    u16::from_le_bytes(first_bytes(part(s, at, 2)))
 }
 
 // The u32 at an offset.
 pub fn u32_at(s: &[u8], at: usize) -> u32
     ensures { result ≡ u32 at s.now }
 {
-    if s.len() <= at {
-        return 0;
-    }
-    let low = u16_at(s, at) as u32;
-    let high = u16_at(s, at + 2) as u32;
-    low + 0x1_0000 * high
-}
-
-// The u64 at an offset with fewer than 8 bytes left: the first of them and the rest, byte by byte.
-// It calls itself, so it is never inlined, and `u64_at`, its only caller, stays small.
-fn short_u64(s: &[u8], at: usize) -> u64
-    requires { length s.now < at + 8 }
-    ensures { result ≡ u64 at s.now }
-{
-    if s.len() <= at {
-        return 0;
-    }
-    let rest = short_u64(s, at + 1) % 0x100_0000_0000_0000;
-    u8_at(s, at) as u64 + 0x100 * rest
+    u32::from_le_bytes(first_bytes(part(s, at, 4)))
 }
 
 // The u64 at an offset.
 pub fn u64_at(s: &[u8], at: usize) -> u64
     ensures { result ≡ u64 at s.now }
 {
-    if s.len() <= at {
-        return 0;
-    }
-    if s.len() - at < 8 {
-        return short_u64(s, at);
-    }
-    let low = u32_at(s, at) as u64;
-    let high = u32_at(s, at + 4) as u64;
-    low + 0x1_0000_0000 * high
+    u64::from_le_bytes(first_bytes(part(s, at, 8)))
 }
 
 // Whether every byte is zero.
 pub fn is_zero(s: &[u8]) -> bool
     ensures { result ≡ zeros s.now }
 {
-    let mut ok = true;
-    let mut i = 0;
-    while i < s.len() {
-        ok = ok & (s[i] == 0);
-        i += 1;
-    }
-    ok
+    s.iter().all(|b| *b == 0)
 }
 
 // How many bytes 0x21..0x7e stand at the start.
 fn leading(s: &[u8]) -> usize
     ensures { result ≡ leading_of s.now }
 {
-    let mut i = 0;
-    while i < s.len() {
-        let b = s[i];
-        if (0x21 <= b) & (b <= 0x7e) {
-            i += 1;
-        } else {
-            return i;
-        }
-    }
-    i
+    s.iter().take_while(|b| 0x21 <= **b && **b <= 0x7e).count()
 }
 
 // Whether the bytes are a name: 1 to 31 bytes 0x21..0x7e, then zeros.
+#[tactic(auto, using(crate::proofs::Laws::leading_le), unfolding(crate::specs::Fields::is_name))]
 pub fn is_name(s: &[u8]) -> bool
     ensures { result ≡ is_name s.now }
 {
     let n = leading(s);
-    (1 <= n) & (n <= 31) & is_zero(&s[n..])
+    1 <= n && n <= 31 && is_zero(&s[n..])
 }
 
 // Whether the record begins with the mark.
 pub fn has_mark(s: &[u8], mark: &[u8]) -> bool
     ensures { result ≡ same (take (length mark.now) s.now) mark.now }
 {
-    if s.len() < mark.len() {
-        return false;
-    }
-    let n = mark.len();
-    check::same(&s[..n], mark)
+    s.starts_with(mark)
 }
 
 // Whether two names are the same over their 32 bytes.
 pub fn same_name(a: [u8; 32], b: [u8; 32]) -> bool
     ensures { result ≡ same a b }
 {
-    check::same(&a, &b)
+    a == b
 }
 
 // The first 32 bytes, with zeros past the end.
 pub fn name_of(s: &[u8]) -> [u8; 32]
     ensures { result ≡ padded 32 s.now }
 {
-    let mut name = [0u8; 32];
-    let mut i = 0;
-    while i < 32 {
-        name[i] = u8_at(s, i);
-        i += 1;
-    }
-    name
+    first_bytes(s)
 }

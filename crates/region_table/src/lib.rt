@@ -1,14 +1,11 @@
-// The regions of a record: reading one, the rules that speak of several, and the tables that hold
-// them.
-//
-// A rule on a record's regions looks at the record's bytes. A table has a count of the places in
-// use; a count past its places means all of them.
+// The regions of a record: reading one, the tables that hold them, and the rules that speak of
+// several, which look at the places in use.
 #![tactic(auto)]
 
-ghost use Rattle.std.specs.Prelude.{◌≡◌, min, take, drop};
+ghost use Rattle.std.specs.Prelude.{◌≡◌, take, drop};
 ghost use Rattle.base.specs.Lists.{all, any, pairwise};
 ghost use Rattle.regions.specs.Regions.{region_of, no_region, comm, apart, inside_phys};
-ghost use Rattle.region_table.specs.Tables.{regions_of};
+ghost use Rattle.region_table.specs.Tables.{table_of};
 
 use regions::MemRegion;
 
@@ -18,86 +15,67 @@ pub const MAX_REGIONS: usize = 64;
 pub const MAX_BOOT_REGIONS: usize = 16;
 
 // What stands in a place that is not used.
+#[tactic(auto, unfolding(regions::specs::Regions::no_region))]
 pub fn no_region() -> MemRegion
     ensures { result ≡ no_region }
 {
-    MemRegion {
-        phys: 0,
-        virt: 0,
-        size: 0,
-        flags: 0,
-    }
+    MemRegion::default()
 }
 
 // The region that begins at an offset, on the part of the record from there on.
 pub fn region_at(s: &[u8], at: usize) -> MemRegion
     ensures { result ≡ region_of (drop at s.now) }
 {
-    if at <= s.len() {
-        regions::region_of(&s[at..])
-    } else {
-        no_region()
-    }
+    regions::region_of(s.get(at..).unwrap_or(&[]))
 }
 
-// How many of a table's places a count means.
-pub fn used(count: usize, places: usize) -> usize
-    ensures { result ≡ min count places }
+// The places of a table that its count means: a count past the places means all of them.
+pub fn in_use<const N: usize>(table: &[MemRegion; N], count: usize) -> &[MemRegion]
+    ensures { result.now ≡ take count table.now }
 {
-    if count < places { count } else { places }
+    if count < N { &table[..count] } else { table }
 }
 
 // Whether some region is a communication region.
-pub fn has_comm(table: [MemRegion; MAX_REGIONS], count: usize) -> bool
-    ensures { result ≡ any comm (take count table) }
+pub fn has_comm(regions: &[MemRegion]) -> bool
+    ensures { result ≡ any comm regions.now }
 {
-    let n = used(count, MAX_REGIONS);
-    let mut found = false;
-    let mut i = 0;
-    while i < n {
-        found = found | regions::is_comm(table[i]);
-        i += 1;
-    }
-    found
+    regions.iter().any(|r| regions::is_comm(*r))
 }
 
-// Whether a region lies physically inside a single region of the system's table.
-pub fn inside_one(r: MemRegion, table: [MemRegion; MAX_BOOT_REGIONS], count: usize) -> bool
-    ensures { result ≡ any (inside_phys r) (take count table) }
+// Whether a region lies physically inside a single one of the regions.
+pub fn inside_one(r: MemRegion, regions: &[MemRegion]) -> bool
+    ensures { result ≡ any (inside_phys r) regions.now }
 {
-    let n = used(count, MAX_BOOT_REGIONS);
-    let mut found = false;
-    let mut i = 0;
-    while i < n {
-        found = found | regions::inside_phys(r, table[i]);
-        i += 1;
-    }
-    found
+    regions.iter().any(|b| regions::inside_phys(r, *b))
 }
 
-// Whether the first `n` regions of a record, from byte `base` on, may each stand in it with `r`.
-pub fn apart_from(s: &[u8], base: u16, n: u16, r: MemRegion) -> bool
-    ensures { result ≡ all (λ x. apart x r) (regions_of base n s.now) }
+// Whether each of the regions may stand in a record with `r`.
+pub fn apart_from(regions: &[MemRegion], r: MemRegion) -> bool
+    ensures { result ≡ all (λ x. apart x r) regions.now }
 {
-    let mut ok = true;
-    let mut i = 0u16;
-    while i < n {
-        ok = ok & regions::apart(region_at(s, base as usize + 32 * i as usize), r);
-        i += 1;
-    }
-    ok
+    regions.iter().all(|x| regions::apart(*x, r))
 }
 
-// Whether every two of the first `n` regions of a record, from byte `base` on, may stand in it.
-pub fn all_apart(s: &[u8], base: u16, n: u16) -> bool
-    ensures { result ≡ pairwise apart (regions_of base n s.now) }
+// Whether every two of the regions may stand in a record.
+pub fn all_apart(regions: &[MemRegion]) -> bool
+    ensures { result ≡ pairwise apart regions.now }
 {
-    let mut ok = true;
-    let mut i = 0u16;
-    while i < n {
-        let r = region_at(s, base as usize + 32 * i as usize);
-        ok = ok & apart_from(s, base, i, r);
-        i += 1;
-    }
-    ok
+    regions
+        .iter()
+        .enumerate()
+        .all(|(i, r)| apart_from(&regions[..i], *r))
+}
+
+// The first `n` regions of a record, from byte `base` on, in a table.
+pub fn table_of<const N: usize>(s: &[u8], base: u16, n: u16) -> [MemRegion; N]
+    ensures { result ≡ table_of N base n s.now }
+{
+    std::array::from_fn(|i| {
+        if i < n as usize {
+            region_at(s, base as usize + 32 * i)
+        } else {
+            no_region()
+        }
+    })
 }

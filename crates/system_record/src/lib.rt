@@ -1,32 +1,32 @@
 // The system record: its values, its rules, and boot's answer.
 #![tactic(auto)]
 
-ghost use Rattle.std.specs.Prelude.{◌≡◌, ◌||◌, min};
+ghost use Rattle.std.specs.Prelude.{◌≡◌, ◌&&◌, ◌||◌};
+ghost use Rattle.base.specs.Codes.{code_of};
 ghost use Rattle.base.specs.Lists.{all};
-ghost use Rattle.fields.specs.Fields.{u16 as u16_of};
-ghost use Rattle.region_table.specs.Tables.{max_boot_regions};
 ghost use Rattle.system_record.specs.SystemRecord.{system_of, system_form, boot_regions, boot_region_ok, system_valid, out_of_range, overdrawn, too_many, boot_answer, read_system};
 
-use base::{EINVAL, ENOMEM, ERANGE};
+use base::Errno;
 use region_table::MAX_BOOT_REGIONS;
 use regions::MemRegion;
 
 // A range of physical memory.
-#[derive(Clone, Copy)]
+#[derive(Clone, Copy, PartialEq, Eq)]
 pub struct Range {
     pub start: u64,
     pub size: u64,
 }
 
 // A pool of hypervisor pages: how many there are, and how many are used.
-#[derive(Clone, Copy)]
+#[derive(Clone, Copy, PartialEq, Eq)]
 pub struct Pool {
     pub pages: u32,
     pub used: u32,
 }
 
-// The values of a system record.
-#[derive(Clone, Copy)]
+// The values of a system record. Its regions are a table with a count, as document 01's rules and the
+// claims read them (`boot_regions`), in fixed memory.
+#[derive(Clone, Copy, PartialEq, Eq)]
 pub struct SystemConfig {
     pub name: [u8; 32],
     pub cpus: u64,
@@ -39,7 +39,17 @@ pub struct SystemConfig {
     pub regions: [MemRegion; MAX_BOOT_REGIONS],
 }
 
-// Boot's answer, and the values as they stand in the record.
+impl SystemConfig {
+    // Its regions: those that the count names.
+    pub fn regions(&self) -> &[MemRegion]
+        ensures { result.now ≡ boot_regions self.now }
+    {
+        region_table::in_use(&self.regions, self.region_count)
+    }
+}
+
+// Boot's answer, and the values as they stand in the record, whatever it is. `code` is the number that
+// document 01 fixes. One pair with its names, as the definition has it (`read_system`).
 #[derive(Clone, Copy)]
 pub struct SystemRead {
     pub code: i32,
@@ -47,169 +57,138 @@ pub struct SystemRead {
 }
 
 // The values of a record, whatever its bytes.
+#[tactic(auto, unfolding(crate::specs::SystemRecord::system_of))]
 pub fn system_of(s: &[u8]) -> SystemConfig
     ensures { result ≡ system_of s.now }
 {
-    let count = fields::u16_at(s, 6) as usize;
-    let name = fields::name_of(fields::part(s, 8, 32));
-    let hypervisor = Range {
-        start: fields::u64_at(s, 56),
-        size: fields::u64_at(s, 64),
-    };
-    let pool = Pool {
-        pages: fields::u32_at(s, 72),
-        used: fields::u32_at(s, 76),
-    };
-    let remap = Pool {
-        pages: fields::u32_at(s, 80),
-        used: fields::u32_at(s, 84),
-    };
-    let regions = boot_table(s);
+    let count = fields::u16_at(s, 6);
     SystemConfig {
-        name,
+        name: fields::name_of(fields::part(s, 8, 32)),
         cpus: fields::u64_at(s, 40),
         possible: fields::u16_at(s, 48),
-        hypervisor,
-        pool,
-        remap,
+        hypervisor: Range {
+            start: fields::u64_at(s, 56),
+            size: fields::u64_at(s, 64),
+        },
+        pool: Pool {
+            pages: fields::u32_at(s, 72),
+            used: fields::u32_at(s, 76),
+        },
+        remap: Pool {
+            pages: fields::u32_at(s, 80),
+            used: fields::u32_at(s, 84),
+        },
         timer: fields::u16_at(s, 88),
-        region_count: count,
-        regions,
+        region_count: count as usize,
+        regions: region_table::table_of(s, 96, count),
     }
 }
 
 // Whether the record has the form of a system record.
+#[tactic(auto, unfolding(crate::specs::SystemRecord::system_form))]
 fn system_form(s: &[u8]) -> bool
     ensures { result ≡ system_form s.now }
 {
     let n = fields::u16_at(s, 6) as usize;
     fields::has_mark(s, b"TSS")
-        & fields::is_zero(fields::part(s, 3, 1))
-        & (fields::u16_at(s, 4) == 1)
-        & (1 <= n)
-        & (n <= MAX_BOOT_REGIONS)
-        & fields::is_zero(fields::part(s, 50, 6))
-        & fields::is_zero(fields::part(s, 90, 6))
-        & (s.len() == 96 + 32 * n)
+        && fields::is_zero(fields::part(s, 3, 1))
+        && fields::u16_at(s, 4) == 1
+        && 1 <= n
+        && n <= MAX_BOOT_REGIONS
+        && fields::is_zero(fields::part(s, 50, 6))
+        && fields::is_zero(fields::part(s, 90, 6))
+        && s.len() == 96 + 32 * n
 }
 
 // Whether a boot region keeps its rules beside the given hypervisor memory.
+#[tactic(auto, unfolding(crate::specs::SystemRecord::boot_region_ok))]
 pub fn boot_region_ok(hypervisor: Range, r: MemRegion) -> bool
     ensures { result ≡ boot_region_ok hypervisor.start hypervisor.size r }
 {
     regions::is_placed(r)
-        & regions::flags_ok(r)
-        & (r.flags < 8)
-        & regions::clear_of(hypervisor.start, hypervisor.size, r)
+        && regions::flags_ok(r)
+        && r.flags < 8
+        && regions::clear_of(hypervisor.start, hypervisor.size, r)
 }
 
-// How many regions of the record there are: those that its count names, as many as a table holds.
-fn region_count(s: &[u8]) -> u16
-    ensures { result ≡ min (u16_of 6 s.now) max_boot_regions }
+// Whether each of the regions keeps a boot region's rules beside the given hypervisor memory.
+fn boot_regions_ok(hypervisor: Range, regions: &[MemRegion]) -> bool
+    ensures { result ≡ all (boot_region_ok hypervisor.start hypervisor.size) regions.now }
 {
-    let n = fields::u16_at(s, 6);
-    if (n as usize) < MAX_BOOT_REGIONS {
-        n
-    } else {
-        MAX_BOOT_REGIONS as u16
-    }
+    regions.iter().all(|r| boot_region_ok(hypervisor, *r))
 }
 
-// The record's regions in a table.
-fn boot_table(s: &[u8]) -> [MemRegion; MAX_BOOT_REGIONS]
-    ensures { result ≡ (system_of s.now).regions }
+// Whether the values keep every rule that answers -22.
+#[tactic(auto, unfolding(crate::specs::SystemRecord::system_valid))]
+pub fn system_valid(c: &SystemConfig) -> bool
+    ensures { result ≡ system_valid c.now }
 {
-    let n = region_count(s) as usize;
-    let mut table = [region_table::no_region(); MAX_BOOT_REGIONS];
-    let mut i = 0;
-    while i < n {
-        table[i] = region_table::region_at(s, 96 + 32 * i);
-        i += 1;
-    }
-    table
-}
-
-// Whether the record's regions each keep a boot region's rules.
-fn boot_regions_ok(hypervisor: Range, s: &[u8]) -> bool
-    ensures { result ≡ all (boot_region_ok hypervisor.start hypervisor.size) (boot_regions (system_of s.now)) }
-{
-    let n = region_count(s);
-    let mut ok = true;
-    let mut i = 0u16;
-    while i < n {
-        ok = ok & boot_region_ok(hypervisor, region_table::region_at(s, 96 + 32 * i as usize));
-        i += 1;
-    }
-    ok
-}
-
-// Whether the record's values keep every rule that answers -22.
-pub fn system_valid(s: &[u8]) -> bool
-    ensures { result ≡ system_valid (system_of s.now) }
-{
-    let name = fields::name_of(fields::part(s, 8, 32));
-    let hypervisor = Range {
-        start: fields::u64_at(s, 56),
-        size: fields::u64_at(s, 64),
-    };
-    fields::is_name(&name)
-        & regions::whole_pages(hypervisor.start, hypervisor.size)
-        & boot_regions_ok(hypervisor, s)
-        & region_table::all_apart(s, 96, region_count(s))
+    let hypervisor = c.hypervisor;
+    let regions = c.regions();
+    fields::is_name(&c.name)
+        && regions::whole_pages(hypervisor.start, hypervisor.size)
+        && boot_regions_ok(hypervisor, regions)
+        && region_table::all_apart(regions)
 }
 
 // Whether a pool number is past 2^31 - 1.
 fn too_many(pool: Pool) -> bool
     ensures { result ≡ (too_many pool.pages || too_many pool.used) }
 {
-    (0x7fff_ffff < pool.pages) | (0x7fff_ffff < pool.used)
+    0x7fff_ffff < pool.pages || 0x7fff_ffff < pool.used
 }
 
 // Whether a CPU or pool number is out of the supported range.
-pub fn out_of_range(c: SystemConfig) -> bool
-    ensures { result ≡ out_of_range c }
+#[tactic(auto, unfolding(crate::specs::SystemRecord::out_of_range))]
+pub fn out_of_range(c: &SystemConfig) -> bool
+    ensures { result ≡ out_of_range c.now }
 {
-    let possible = c.possible as u64;
-    let pool = c.pool;
-    let remap = c.remap;
-    !((1 <= possible) & (possible <= 64))
-        | cpu_set::is_empty(c.cpus)
-        | !cpu_set::is_below(c.cpus, possible)
-        | too_many(pool)
-        | too_many(remap)
+    !(1 <= c.possible && c.possible <= 64)
+        || cpu_set::is_empty(c.cpus)
+        || !cpu_set::is_below(c.cpus, c.possible as u64)
+        || too_many(c.pool)
+        || too_many(c.remap)
 }
 
 // Whether a pool has more pages used than it has.
-pub fn is_overdrawn(c: SystemConfig) -> bool
-    ensures { result ≡ overdrawn c }
+#[tactic(auto, unfolding(crate::specs::SystemRecord::overdrawn))]
+pub fn is_overdrawn(c: &SystemConfig) -> bool
+    ensures { result ≡ overdrawn c.now }
 {
-    let pool = c.pool;
-    let remap = c.remap;
-    (pool.pages < pool.used) | (remap.pages < remap.used)
+    c.pool.pages < c.pool.used || c.remap.pages < c.remap.used
+}
+
+// Whether the record has its form and its values keep every rule that answers -22.
+fn is_valid(s: &[u8], c: &SystemConfig) -> bool
+    ensures { result ≡ (system_form s.now && system_valid c.now) }
+{
+    system_form(s) && system_valid(c)
 }
 
 // Boot's answer to a record that holds these values.
-fn boot_answer(s: &[u8], c: SystemConfig) -> i32
-    requires { c ≡ system_of s.now }
-    ensures { result ≡ boot_answer s.now }
+#[tactic(auto, using(base::proofs::Tests::told, crate::proofs::Laws::answer_invalid, crate::proofs::Laws::answer_range, crate::proofs::Laws::answer_overdrawn, crate::proofs::Laws::answer_accepted))]
+fn boot_answer(s: &[u8], c: &SystemConfig) -> Result<(), Errno>
+    requires { c.now ≡ system_of s.now }
+    ensures { code_of result ≡ boot_answer s.now }
 {
-    if !(system_form(s) & system_valid(s)) {
-        return EINVAL;
+    if !is_valid(s, c) {
+        return Err(Errno::Invalid);
     }
     if out_of_range(c) {
-        return ERANGE;
+        return Err(Errno::OutOfRange);
     }
     if is_overdrawn(c) {
-        return ENOMEM;
+        return Err(Errno::NoMemory);
     }
-    0
+    Ok(())
 }
 
 // Reads a system record: boot's answer, 0 for an accepted start, and the values as they stand.
+#[tactic(auto, unfolding(crate::specs::SystemRecord::read_system))]
 pub fn read_system(s: &[u8]) -> SystemRead
     ensures { result ≡ read_system s.now }
 {
     let config = system_of(s);
-    let code = boot_answer(s, config);
+    let code = base::code_of(boot_answer(s, &config));
     SystemRead { code, config }
 }

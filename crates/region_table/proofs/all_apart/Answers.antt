@@ -1,27 +1,21 @@
--- `region_table::all_apart` meets its contract, by the loop's invariant. Assumes nothing.
-use mathlib.Core.Path.{◌≡◌, ap, ◌∙◌}
-use Prim.Native.Nat.{ℕ, ◌-◌}
-use native.Mathlib.Omega.{arith}
-use Rattle.base.specs.Lists.{all, pairwise}
-use Rattle.regions.specs.declared.MemRegion.{MemRegion}
-use Rattle.regions.specs.Regions.{apart}
-use Rattle.region_table.specs.Tables.{region_at, regions_of}
-use Rattle.region_table.proofs.Laws.{pairwise-no-region, pairwise-regions}
-use Rattle.std.proofs.Common.{rules}
+-- `region_table::all_apart` meets its contract: the chain tests each region with those before it. Assumes nothing.
+use Rattle.base.specs.Lists.{all}
+use Rattle.base.proofs.Lists.{pairwise-rows}
+use Rattle.regions.specs.Regions.{apart, no_region}
+use Rattle.region_table.proofs.Laws.{all-placed}
+use Rattle.std.proofs.Common.{rules, ap, ◌∙◌, take}
+use Rattle.std.specs.Slice.Iter.{iter_rest}
+use Rattle.std.proofs.lemmas.Iterator.{YieldsList-from_slice}
+use Rattle.std.proofs.lemmas.Iterator.Consumers.{YieldsList-from_enumerate}
+use Rattle.std.proofs.lemmas.Iterator.Search.{all_from_yields_List}
 use Rattle.region_table.proofs.all_apart.Goals as goal
 
-pub loop-i-init : goal.loop-i-init
-loop-i-init c = (search rules, pairwise-no-region _ _ _)
-
-pub loop-i-preserved : goal.loop-i-preserved
-unfolding region_at
-loop-i-preserved c = (
-  search rules,
-  pairwise-regions _ _ c.loop-i.i apart _ _ c.loop-i.invariant.1
-      (c.apart_from-ok.ensures ∙ ap (λ (r : MemRegion). all (λ x. apart x r) (regions_of c.args.base c.loop-i.i c.args.s.now)) c.region_at-r.ensures),
-)
-
 pub returns : goal.returns
+unfolding no_region
 returns c =
-    let end : c.loop-i.i ≡ c.args.n = omega arith in
-    c.loop-i.invariant.1 ∙ ap (λ (k : ℕ). pairwise apart (regions_of c.args.base k c.args.s.now)) end
+    let rs = c.args.regions.now in
+    all_from_yields_List (λ p. all (λ x. apart x p.1) (take p.0 rs)) _ _ c.all.result c.all.ensures.ran
+    (YieldsList-from_enumerate (YieldsList-from_slice rs (ap iter_rest c.enumerate.ensures.source ∙ c.iter.ensures.rest)) c.enumerate.ensures.count)
+    (λ i b q h. search rules)
+    ∙ all-placed (λ p. all (λ x. apart x p.1) (take p.0 rs)) no_region rs
+    ∙ pairwise-rows apart no_region rs
