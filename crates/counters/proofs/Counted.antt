@@ -1,16 +1,9 @@
 -- Every CPU's counters are the history's counts. Machine and history agree on which cells live and what their records name, so a CPU changes hands in
 -- both with the same event; what an event adds before the wrap it adds after it; and from boot, where all is zero, the lines keep this one by one.
 -- Assumes nothing.
-use mathlib.Core.Path.{◌≡◌, refl, sym, ap, ap₂, ◌∙◌}
-use mathlib.Core.Bool.{Bool, true, false, not, ◌&&◌, ◌||◌, true≢false}
-use mathlib.Core.List.{List, [], ◌∷◌}
-use Prim.Native.Nat.{ℕ, ◌≤◌, ◌<◌}
-use native.Mathlib.Omega.{arith}
-use lib.Dec.{eqb}
-use lib.ListN.{length, set, get_or-replicate}
-use lib.Seq.{get_or-set_same, get_or-set_other}
-use borrow.Author.Tests.{eqb-true, eqb-false, ltb-false}
-use Rattle.base.specs.Lists.{any}
+use Rattle.std.proofs.Common.{◌≡◌, refl, sym, ap, ap₂, ◌∙◌, Bool, true, false, not, ◌&&◌, ◌||◌, List, [], ◌∷◌, ℕ, ◌≤◌, ◌<◌, arith, eqb, length, set, get_or-set_same, get_or-set_other, eqb-true, ltb-false}
+use Rattle.std.proofs.lemmas.Bool.{eqb-false}
+use Rattle.std.proofs.Math.ListN.{get_or-replicate}
 use Rattle.cpu_set.specs.CpuSet.{member}
 use Rattle.system_record.specs.declared.SystemConfig.{SystemConfig}
 use Rattle.system_record.specs.SystemRecord.{system_of}
@@ -25,13 +18,13 @@ use Rattle.machine_state.specs.declared.Machine.{Machine}
 use Rattle.machine_state.specs.declared.Stepped.{Stepped}
 use Rattle.machine_state.specs.Machine.{fresh_cpu, first_machine, boot_of, past_cpu}
 use Rattle.rules.specs.State.{live, cell_at, cpu_at, with_cpus, with_comm, answered}
-use Rattle.rules.specs.Unobeyed.{off, bad_cpu, bad_kind, stopped, held, unobeyed, is_obeyed}
+use Rattle.rules.specs.Unobeyed.{unobeyed, is_obeyed}
 use Rattle.rules.specs.Answers.{is_unobeyed}
 use Rattle.rules.specs.Effects.{bump, counted, count_exit, call_counter, exit_counter, stored, fail_cpu, faulted}
 use Rattle.rules.specs.Step.{obeyed, step}
 use Rattle.rules.specs.Run.{Line, start_of, run, after}
-use Rattle.rules.proofs.Cases.{step-cases}
-use Rattle.refusals.proofs.Kept.{read_kept, fault-cases}
+use Rattle.rules.proofs.Cases.{NoneApplies, no_row, fault-cases, step-cases}
+use Rattle.rules.proofs.Places.{read_kept}
 use Rattle.history.specs.History.{Created, History, has_cell, record_brought, seen, history_from, nothing_yet}
 use Rattle.reached.proofs.Table.{table_of, counted_same}
 use Rattle.reached.proofs.Settled.{Follows}
@@ -133,16 +126,9 @@ module _ (k : ℕ) (below : k < 64) (boot : SystemConfig) where
         counts own cpu low high ∙ figures-same _ _ (λ i. ap (λ (b : Bool). tallied false b (n i)) (heeded-adds own cpu w u i))
 
     -- exit kinds that are obeyed
-    third : (p q r s t : Bool) → not (p || (q || (r || (s || (t || false))))) ≡ true → r ≡ false
-    third p q false s t e = refl
-    third true q true s t e = absurd (true≢false (sym e))
-    third false true true s t e = absurd (true≢false (sym e))
-    third false false true s t e = absurd (true≢false (sym e))
-
     kind-small : (cpu kind : ℕ) → is_obeyed (Exit cpu kind) m ≡ true → kind ≤ 3
-    unfolding is_obeyed unobeyed any
-    kind-small cpu kind e =
-        ltb-false 3 kind (third (off m).when (bad_cpu cpu m).when (bad_kind kind m).when (stopped cpu m).when (held cpu m).when e)
+    unfolding unobeyed NoneApplies
+    kind-small cpu kind e = ltb-false 3 kind (no_row (Exit cpu kind) m e).1.1.0
 
     base : (cpu : ℕ) → Agrees boot h (counted call_counter cpu m)
     unfolding counted with_cpus
@@ -156,9 +142,9 @@ module _ (k : ℕ) (below : k < 64) (boot : SystemConfig) where
         (counts-as call_counter cpu _ (omega arith) (omega arith) went.heeded)
     obeyed-counts (Store cpu word value) bytes o = nothing-done (Store cpu word value) _ (λ i. refl) refl refl
     obeyed-counts (Fault cpu) bytes o =
-        fault-cases (λ (next : Machine). Counts (Fault cpu) (answered Done next)) (cpu_at m cpu).cell _
-        (λ words. nothing-done (Fault cpu) _ (λ i. refl) refl failed-keeps)
+        fault-cases (λ (next : Machine). Counts (Fault cpu) (answered Done next)) cpu m
         (nothing-done (Fault cpu) _ (λ i. refl) refl failed-keeps)
+        (λ f. nothing-done (Fault cpu) _ (λ i. refl) refl failed-keeps)
       where
         failed-keeps : counters_of k (with_cpus (set m.cpus cpu (fail_cpu (cpu_at m cpu))) m) ≡ counters_of k m
         failed-keeps = read_kept past_cpu (λ (p : Cpu). p.counters) m.cpus cpu k (fail_cpu (cpu_at m cpu)) refl

@@ -1,12 +1,6 @@
 -- Six figures modulo 2^32: an obeyed call or exit adds one to the total and to its own, whether before the wrap or after it. Assumes nothing.
-use mathlib.Core.Path.{◌≡◌, refl, ap₂}
-use mathlib.Core.Bool.{false, ◌||◌}
-use mathlib.Core.List.{[], ◌∷◌}
-use Prim.Native.Nat.{ℕ, zero, suc, ◌+◌, ◌%◌, ◌^◌, ◌≤◌}
-use native.Mathlib.Nat.{mod-add-mod, not-suc-le-zero}
-use native.Mathlib.Omega.{arith}
-use lib.Dec.{eqb}
-use lib.ListN.{replicate}
+use Rattle.std.proofs.Common.{◌≡◌, refl, ap₂, false, ◌||◌, [], ◌∷◌, ℕ, zero, suc, ◌+◌, ◌%◌, ◌^◌, ◌≤◌, not-suc-le-zero, arith, eqb, replicate}
+use Rattle.std.proofs.Math.Nat.{mod-add-mod}
 use Rattle.base.specs.Lists.{from}
 use Rattle.rules.specs.Effects.{bump}
 use Rattle.counters.specs.Counters.{figures, tallied}

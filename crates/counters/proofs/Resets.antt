@@ -1,33 +1,25 @@
 -- What a step does to a CPU's counters, on the machine alone: it resets them exactly where a cell that names the CPU has come or gone with it. Create
 -- and Destroy change the live IDs at one place, and the counters of that cell's CPUs; Disable does so place by place. Assumes nothing.
-use mathlib.Core.Path.{◌≡◌, refl, sym, ap, ap₂, ◌∙◌}
-use mathlib.Core.Bool.{Bool, true, false, not, ◌&&◌, ◌||◌, or-false, true≢false, and-true}
-use mathlib.Core.List.{List, [], ◌∷◌}
-use Prim.Native.Nat.{ℕ, zero, suc, ◌≤◌, ◌<◌}
-use native.Mathlib.Decide.{ℕ_discrete}
-use native.Mathlib.Omega.{arith}
-use lib.Dec.{eqb}
-use lib.ListN.{length, replicate}
-use lib.Seq.{get_or-set_same, get_or-set_other}
-use borrow.Author.Tests.{ne_eqb, eq-eqb}
+use Rattle.std.proofs.Common.{◌≡◌, refl, sym, ap, ap₂, ◌∙◌, Bool, true, false, not, ◌&&◌, ◌||◌, true≢false, List, [], ◌∷◌, ℕ, zero, suc, ◌≤◌, ◌<◌, arith, eqb, length, replicate, get_or-set_same, get_or-set_other, ne_eqb, eq-eqb}
+use Rattle.std.proofs.Math.Bool.{or-false, and-true}
+use Rattle.std.proofs.Math.Decide.{ℕ_discrete}
 use Rattle.base.specs.Lists.{any, from}
-use Rattle.base.proofs.Lists.{get_or-up_to}
 use Rattle.cpu_set.specs.CpuSet.{member}
 use Rattle.cell_record.specs.declared.CellConfig.{CellConfig}
 use Rattle.machine_state.specs.declared.Cpu.{Cpu}
 use Rattle.machine_state.specs.declared.CommRegion.{CommRegion}
 use Rattle.machine_state.specs.declared.Cell.{Cell}
-use Rattle.machine_state.specs.declared.Waiting.{Waiting}
+use Rattle.machine_state.specs.Machine.{Waiting}
 use Rattle.machine_state.specs.declared.Machine.{Machine}
-use Rattle.machine_state.specs.Machine.{fresh_cpu, no_cell, cpu_in, past_cpu, past_cell}
+use Rattle.machine_state.specs.Machine.{fresh_cpu, no_cell, past_cell}
 use Rattle.rules.specs.State.{root_id, cell_ids, cell_at, cpu_at, has_id, live, with_waiting, with_power, with_pool, with_ids, with_root_cpus, with_cell, with_comm, with_cpus}
-use Rattle.rules.specs.Effects.{change_in, change_cpus, cpus_changed, start_cpu, stop_cpu, given_to, new_cell, cell_created, in_phase, cell_started, cell_loadable, cell_cut_off, cell_destroyed, all_destroyed, disabled}
+use Rattle.rules.specs.Effects.{change_in, cpus_changed, start_cpu, stop_cpu, given_to, new_cell, cell_created, in_phase, cell_started, cell_loadable, cell_cut_off, cell_destroyed, all_destroyed, disabled}
+use Rattle.rules.proofs.Places.{changed-at}
 use Rattle.rules.proofs.Ids.{by-test, has-added, has-dropped, any-from-true}
 
 -- ---- one place of a list of IDs
 
 any_none : (p : ℕ → Bool) (ids : List ℕ) → ((id : ℕ) → p id ≡ false) → any p ids ≡ false
-unfolding any
 any_none p [] f = refl
 any_none p (id ∷ ids) f = ap₂ (λ (a b : Bool). a || b) (f id) (any_none p ids f)
 
@@ -44,7 +36,7 @@ any_at p t low high others = go (p t) refl
         by-id id (no n) e = others id n
 
 pub any_same : (p q : ℕ → Bool) (k n : ℕ) → ((id : ℕ) → k ≤ id → p id ≡ q id) → any p (from k n) ≡ any q (from k n)
-unfolding any from
+unfolding from
 any_same p q k zero f = refl
 any_same p q k (suc n) f = ap₂ (λ (a b : Bool). a || b) (f k (omega arith)) (any_same p q (suc k) n (λ id l. f id (omega arith)))
 
@@ -97,10 +89,6 @@ unfolding lives_only with_comm
 resets-message k kept m n id words r = r
 
 -- ---- the CPUs of a set, changed
-
-changed-at : (these : ℕ) (change : Cpu → Cpu) (k : ℕ) (cpus : List Cpu) → k < 64 → cpu_in (change_cpus these change cpus) k ≡ change_in these change k (cpu_in cpus k)
-unfolding change_cpus
-changed-at these change k cpus l = get_or-up_to (λ (j : ℕ). change_in these change j (cpu_in cpus j)) 64 k past_cpu l
 
 kept_in : (cpus : ℕ) (change : Cpu → Cpu) (k : ℕ) (p : Cpu) → (change p).counters ≡ p.counters → (change_in cpus change k p).counters ≡ p.counters
 unfolding change_in
@@ -269,7 +257,7 @@ module _ (k : ℕ) (below : k < 64) where
       (destroyed-other id m j n)
 
   all-counters : (a n : ℕ) (m : Machine) → counters_of k (all_destroyed (from a n) m) ≡ or_zeros (any (names m) (from a n)) (counters_of k m)
-  unfolding all_destroyed from any or_zeros
+  unfolding all_destroyed from or_zeros
   all-counters a zero m = refl
   all-counters a (suc n) m =
       by-test (λ (next : Machine). counters_of k next ≡ or_zeros (names m a || any (names m) (from (suc a) n)) (counters_of k m)) (live m a)

@@ -1,24 +1,15 @@
 -- What each event does to a CPU's counters. A word leaves all as it was; an obeyed call counts its caller and then goes on, an exit counts; an effect
 -- resets where the cells that name the CPU change; nothing else touches counters. Assumes nothing.
-use mathlib.Core.Path.{◌≡◌, refl, sym, subst}
-use mathlib.Core.Bool.{Bool, true, false, true≢false}
-use mathlib.Core.List.{List}
-use Prim.Native.Nat.{ℕ, ◌≤◌, ◌<◌}
-use native.Mathlib.Omega.{arith}
-use lib.Dec.{eqb→eq}
-use lib.IntN.{ℤ, pos}
-use lib.ListN.{length}
-use Rattle.base.specs.Lists.{any}
+use Rattle.std.proofs.Common.{◌≡◌, refl, sym, subst, Bool, true, false, true≢false, List, ℕ, ◌≤◌, ◌<◌, arith, ℤ, pos, length, eqb-true, None, Some}
 use Rattle.base.specs.Rules.{EPERM}
-use Rattle.base.proofs.Tests.{holds, fails, eq→eqb}
+use Rattle.base.proofs.Tests.{fails, eq→eqb}
 use Rattle.cell_record.specs.declared.CellConfig.{CellConfig}
 use Rattle.cell_record.specs.CellRecord.{cell_of}
 use Rattle.system_record.specs.declared.SystemConfig.{SystemConfig}
 use Rattle.machine_state.specs.declared.CallKind.{CallKind}
 use Rattle.machine_state.specs.declared.CallKind.TheVariants.{Disable, Create, Start, SetLoadable, Destroy}
 use Rattle.machine_state.specs.declared.Stage.{Stage}
-use Rattle.machine_state.specs.declared.Waiting.{Waiting}
-use Rattle.machine_state.specs.declared.Waiting.TheVariants.{NoCall, Pending}
+use Rattle.machine_state.specs.Machine.{Waiting}
 use Rattle.machine_state.specs.declared.Machine.{Machine}
 use Rattle.machine_state.specs.declared.Stepped.{Stepped}
 use Rattle.rules.specs.State.{root_id, live, answered}
@@ -73,12 +64,12 @@ module _ (k : ℕ) (below : k < 64) where
   unfolding wait_for answered is_unobeyed
   waits-goes kind stage code m n r = record {
     heeded = refl;
-    resets = resets-waiting k (counters_of k m) m _ (Pending kind stage) (resets-message k (counters_of k m) m n stage.cell _ r);
+    resets = resets-waiting k (counters_of k m) m _ (Some (kind, stage)) (resets-message k (counters_of k m) m n stage.cell _ r);
   }
 
   pub ends-goes : (z : ℤ) (m n : Machine) → Resets k (counters_of k m) m n → Goes m (finished z n)
   unfolding finished answered is_unobeyed
-  ends-goes z m n r = record { heeded = refl; resets = resets-waiting k (counters_of k m) m n NoCall r }
+  ends-goes z m n r = record { heeded = refl; resets = resets-waiting k (counters_of k m) m n None r }
 
   still : (m : Machine) → Resets k (counters_of k m) m m
   still m = resets_none k (counters_of k m) m m refl refl
@@ -105,7 +96,7 @@ module _ (k : ℕ) (below : k < 64) where
     is-cell id c = record { low = let n : id ≡ 0 → ⊥ = c.other in omega arith; high = settled.sound.few id c.lives; lives = c.lives }
 
     none_left : (j : ℕ) → 1 ≤ j → live (disabled m) j ≡ false
-    unfolding has_cell any
+    unfolding has_cell
     none_left j l = (after_disable boot cs m settled).follows.lives j (λ q. omega arith)
 
     pub call-goes : (cpu code a1 a2 : ℕ) (bytes : List ℕ) → Goes m (call cpu code a1 a2 bytes m)
@@ -138,7 +129,7 @@ module _ (k : ℕ) (below : k < 64) where
   asked-can boot cs m s Create target cell c e = absurd (true≢false (sym e))
   asked-can boot cs m s Start target cell c e = tt
   asked-can boot cs m s SetLoadable target cell c e = tt
-  asked-can boot cs m s Destroy target cell c e = is-cell boot cs m s target (subst (IsCell (table_of m)) (eqb→eq cell target (holds e)) c)
+  asked-can boot cs m s Destroy target cell c e = is-cell boot cs m s target (subst (IsCell (table_of m)) (eqb-true cell target e) c)
 
   module _ (boot : SystemConfig) (cs : List Created) (m : Machine) (settled : Settled boot cs (table_of m)) where
     PollGoes : Stepped → Type 0
@@ -150,8 +141,8 @@ module _ (k : ℕ) (below : k < 64) where
 
     pub poll-goes : (w : Waiting) (new : CellConfig) → WaitsWell (table_of m) w → Resets k (counters_of k m) m (poll w new m).machine
     unfolding poll answered PollGoes cuts_off heard_at
-    poll-goes NoCall new well = still m
-    poll-goes (Pending kind stage) new well = by-stage stage.telling refl
+    poll-goes None new well = still m
+    poll-goes (Some (kind, stage)) new well = by-stage stage.telling refl
       where
         target : ℕ
         target = stage.target

@@ -5,7 +5,7 @@ use Rattle.std.specs.Prelude.{◌≡◌, Bool, true, false, not, ◌&&◌, ◌||
 use Rattle.base.specs.Lists.{any, up_to}
 use Rattle.cpu_set.specs.CpuSet.{member}
 use Rattle.machine_state.specs.declared.Event.{Event}
-use Rattle.machine_state.specs.declared.Event.TheVariants.{Call, Store, Fault, Exit, Poll, Malformed}
+use Rattle.machine_state.specs.declared.Event.TheVariants.{Call, Exit}
 use Rattle.machine_state.specs.declared.Answer.{Answer}
 use Rattle.machine_state.specs.Machine.{max_cpus}
 use Rattle.rules.specs.State.{cell_ids, cpu_at}
@@ -25,11 +25,8 @@ adds_to caller own answer cpu i = not (is_unobeyed answer) && eqb caller cpu && 
 -- calls and exits count, and nothing else
 unfoldable pub adds : Event → Answer → ℕ → ℕ → Bool
 adds (Call caller code a1 a2) answer cpu i = adds_to caller call_counter answer cpu i
-adds (Store caller word value) answer cpu i = false
-adds (Fault caller) answer cpu i = false
 adds (Exit caller kind) answer cpu i = adds_to caller (exit_counter kind) answer cpu i
-adds Poll answer cpu i = false
-adds Malformed answer cpu i = false
+adds _ answer cpu i = false
 
 -- a cell that names the CPU is among the first cells and not among the others
 unfoldable pub only_in : ℕ → List Created → List Created → Bool

@@ -1,16 +1,16 @@
 -- The history of a run: which cells have been created and not destroyed, and by which records, read from the events and their answers alone
 -- and never from the machine's tables. Create's effect comes with its call unless that is refused; Destroy's with the first answer, the call's
 -- own or a poll's, that is neither a refusal nor `wait` for its target; Disable's with its 0.
-use Rattle.std.specs.Prelude.{Bool, true, false, not, ◌&&◌, List, [], ◌∷◌, ℕ, leb, eqb, pos, negsuc}
+use Rattle.std.specs.Prelude.{Bool, true, false, not, ◌&&◌, List, [], ◌∷◌, ℕ, leb, eqb, pos, negsuc, Option, None, Some}
 use Rattle.base.specs.Lists.{any}
 use Rattle.cell_record.specs.declared.CellConfig.{CellConfig}
 use Rattle.cell_record.specs.CellRecord.{cell_of}
 use Rattle.machine_state.specs.declared.CallKind.{CallKind}
-use Rattle.machine_state.specs.declared.CallKind.TheVariants.{Disable, Create, Start, SetLoadable, Destroy}
+use Rattle.machine_state.specs.declared.CallKind.TheVariants.{Disable, Create, Destroy}
 use Rattle.machine_state.specs.declared.Event.{Event}
-use Rattle.machine_state.specs.declared.Event.TheVariants.{Call, Store, Fault, Exit, Poll, Malformed}
+use Rattle.machine_state.specs.declared.Event.TheVariants.{Call, Poll}
 use Rattle.machine_state.specs.declared.Answer.{Answer}
-use Rattle.machine_state.specs.declared.Answer.TheVariants.{Code, Wait, Done, Off, Bad, Stopped, Held, Denied, Idle}
+use Rattle.machine_state.specs.declared.Answer.TheVariants.{Code, Wait}
 use Rattle.machine_state.specs.declared.Machine.{Machine}
 use Rattle.rules.specs.State.{cell_ids, first}
 use Rattle.rules.specs.Answers.{is_negative}
@@ -46,23 +46,19 @@ smallest_free cells = first (λ id. not (has_cell id cells)) cell_ids
 unfoldable pub cells_after : CallKind → ℕ → List ℕ → List Created → List Created
 cells_after Disable target bytes cells = []
 cells_after Create target bytes cells = record { id = smallest_free cells; bytes = bytes } ∷ cells
-cells_after Start target bytes cells = cells
-cells_after SetLoadable target bytes cells = cells
 cells_after Destroy target bytes cells = cells_but target cells
+cells_after _ target bytes cells = cells
 
--- ---- the call whose effect is still to come
+-- ---- the call whose effect is still to come: its kind and its target
 
-pub data Ahead : Type 0 where
-  Nothing : Ahead
-  Effect : CallKind → ℕ → Ahead
+abbrev pub Ahead : Type 0
+Ahead = Option (CallKind × ℕ)
 
 -- a call that waits for `cell` has had its effect: Create from its call on, Destroy once it waits for another than its target
 unfoldable pub has_come : CallKind → ℕ → ℕ → Bool
-has_come Disable target cell = false
 has_come Create target cell = true
-has_come Start target cell = false
-has_come SetLoadable target cell = false
 has_come Destroy target cell = not (eqb cell target)
+has_come _ target cell = false
 
 -- ---- the history
 
@@ -73,28 +69,22 @@ pub record History : Type 0 where
   pub waits_for : ℕ
 
 abbrev pub nothing_yet : History
-nothing_yet = record { cells = []; ahead = Nothing; waits_for = 0 }
+nothing_yet = record { cells = []; ahead = None; waits_for = 0 }
 
 -- a call has its effect
 unfoldable pub come : CallKind → ℕ → List ℕ → ℕ → History → History
-come kind target bytes cell h = record { cells = cells_after kind target bytes h.cells; ahead = Nothing; waits_for = cell }
+come kind target bytes cell h = record { cells = cells_after kind target bytes h.cells; ahead = None; waits_for = cell }
 
 -- an answer, the call's own or a poll's, to a call whose effect is still to come
 unfoldable pub answered_by : CallKind → ℕ → List ℕ → Answer → History → History
 answered_by kind target bytes (Code (pos n)) h = come kind target bytes 0 h
-answered_by kind target bytes (Code (negsuc n)) h = record { cells = h.cells; ahead = Nothing; waits_for = 0 }
+answered_by kind target bytes (Code (negsuc n)) h = record h { ahead = None; waits_for = 0 }
 answered_by kind target bytes (Wait cell) h =
     elim (has_come kind target cell) [
       | true ↦ come kind target bytes cell h
-      | false ↦ record { cells = h.cells; ahead = Effect kind target; waits_for = cell }
+      | false ↦ record h { ahead = Some (kind, target); waits_for = cell }
     ]
-answered_by kind target bytes Done h = h
-answered_by kind target bytes Off h = h
-answered_by kind target bytes Bad h = h
-answered_by kind target bytes Stopped h = h
-answered_by kind target bytes Held h = h
-answered_by kind target bytes Denied h = h
-answered_by kind target bytes Idle h = h
+answered_by kind target bytes _ h = h
 
 -- a call: codes 0 to 4 have effects, and one that is refused leaves all as it was, another call that waits included
 unfoldable pub after_call : ℕ → ℕ → List ℕ → Answer → History → History
@@ -106,28 +96,19 @@ after_call code a1 bytes answer h =
 
 -- a poll of a call that has had its effect: only the cell that it waits for changes
 unfoldable pub after_telling : Answer → History → History
-after_telling (Code z) h = record { cells = h.cells; ahead = Nothing; waits_for = 0 }
-after_telling (Wait cell) h = record { cells = h.cells; ahead = Nothing; waits_for = cell }
-after_telling Done h = h
-after_telling Off h = h
-after_telling Bad h = h
-after_telling Stopped h = h
-after_telling Held h = h
-after_telling Denied h = h
-after_telling Idle h = h
+after_telling (Code z) h = record h { ahead = None; waits_for = 0 }
+after_telling (Wait cell) h = record h { ahead = None; waits_for = cell }
+after_telling _ h = h
 
 unfoldable pub after_poll : Ahead → Answer → History → History
-after_poll Nothing answer h = after_telling answer h
-after_poll (Effect kind target) answer h = answered_by kind target [] answer h
+after_poll None answer h = after_telling answer h
+after_poll (Some (kind, target)) answer h = answered_by kind target [] answer h
 
 -- one event and its answer
 unfoldable pub seen : Event → List ℕ → Answer → History → History
 seen (Call cpu code a1 a2) bytes answer h = after_call code a1 bytes answer h
-seen (Store cpu word value) bytes answer h = h
-seen (Fault cpu) bytes answer h = h
-seen (Exit cpu kind) bytes answer h = h
 seen Poll bytes answer h = after_poll h.ahead answer h
-seen Malformed bytes answer h = h
+seen _ bytes answer h = h
 
 -- the history of a run, from its start to its end
 unfoldable pub history_from : History → List Happened → History

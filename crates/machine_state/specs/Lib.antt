@@ -1,1 +1,2 @@
+pub mod CallCodes
 pub mod Machine

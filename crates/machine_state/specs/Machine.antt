@@ -1,6 +1,6 @@
 -- The machine and its start. Document 01, "The machine" and boot's answers: what a start makes of a system record. What the machine's
 -- parts mean and what events do to them is said in `rules`.
-use Rattle.std.specs.Prelude.{Bool, false, List, [], ℕ, zero, suc, get_or, replicate, ℤ, pos, negsuc}
+use Rattle.std.specs.Prelude.{Bool, false, List, [], ℕ, zero, suc, get_or, replicate, ℤ, pos, negsuc, Option, None}
 use Rattle.regions.specs.Regions.{no_region}
 use Rattle.region_table.specs.Tables.{max_regions}
 use Rattle.system_record.specs.declared.SystemConfig.{SystemConfig}
@@ -9,11 +9,16 @@ use Rattle.machine_state.specs.declared.Cpu.{Cpu}
 use Rattle.machine_state.specs.declared.CommRegion.{CommRegion}
 use Rattle.machine_state.specs.declared.Phase.TheVariants.{Suspended}
 use Rattle.machine_state.specs.declared.Cell.{Cell}
-use Rattle.machine_state.specs.declared.Waiting.TheVariants.{NoCall}
+use Rattle.machine_state.specs.declared.CallKind.{CallKind}
+use Rattle.machine_state.specs.declared.Stage.{Stage}
 use Rattle.machine_state.specs.declared.Power.{Power}
 use Rattle.machine_state.specs.declared.Power.TheVariants.{Unbooted, On}
 use Rattle.machine_state.specs.declared.Machine.{Machine}
 use Rattle.machine_state.specs.declared.Booted.{Booted}
+
+-- the call that waits, and how far it has come; none where no call waits
+abbrev pub Waiting : Type 0
+Waiting = Option (CallKind × Stage)
 
 -- "Up to 16 cells", and CPUs below 64
 abbrev pub max_cells : ℕ
@@ -44,7 +49,7 @@ first_machine power system = record {
   cells = replicate max_cells no_cell;
   comms = replicate max_cells no_comm;
   cpus = replicate max_cpus (fresh_cpu 0 false);
-  waiting = NoCall;
+  waiting = None;
 }
 
 -- "0: an accepted start. After a refusal there is no started machine."

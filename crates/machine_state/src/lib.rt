@@ -1,9 +1,11 @@
-// The machine: what the manager keeps between two events. Every value of these types is allowed;
-// which ones a start can reach is a theorem and no precondition.
+// The machine: what the manager keeps between two events. Every value of these types is allowed, and so
+// no field has an invariant (a CPU's cell, a waiting call's stage): the step is promised for every
+// machine, and which ones a start can reach is a theorem and no precondition.
 #![tactic(auto)]
 
-ghost use Rattle.std.specs.Prelude.{◌≡◌};
-ghost use Rattle.machine_state.specs.Machine.{fresh_cpu, no_comm, no_cell, first_machine, boot_of};
+ghost use Rattle.std.specs.Prelude.{◌≡◌, take};
+ghost use Rattle.machine_state.specs.CallCodes.{DecodesCall};
+ghost use Rattle.machine_state.specs.Machine.{fresh_cpu, no_comm, no_cell, first_machine, power_after, boot_of};
 
 use region_table::MAX_REGIONS;
 use regions::MemRegion;
@@ -16,7 +18,7 @@ pub const MAX_CPUS: usize = 64;
 
 // A CPU: the cell that owns it, its stopped and failed marks, and its exit counters: the total,
 // MMIO, PIO, IPI, management, calls.
-#[derive(Clone, Copy)]
+#[derive(Clone, Copy, PartialEq, Eq)]
 pub struct Cpu {
     pub cell: usize,
     pub stopped: bool,
@@ -26,8 +28,9 @@ pub struct Cpu {
 
 // The communication words of a cell: the message to it, its reply, its state; whether it has a
 // communication region at all, whether it is passive, so that it is never messaged, and how many
-// polls it may leave a message unanswered, 0 for any number.
-#[derive(Clone, Copy)]
+// polls it may leave a message unanswered, 0 for any number, as C-14 and the definitions have it.
+// The words are u32s, and no enums: a cell may store any number there.
+#[derive(Clone, Copy, Default, PartialEq, Eq)]
 pub struct CommRegion {
     pub mapped: bool,
     pub passive: bool,
@@ -73,15 +76,53 @@ pub const CELL_GET_STATE: u32 = 6;
 
 pub const CPU_GET_INFO: u32 = 7;
 
-#[derive(Clone, Copy)]
+// What a call asks for, by Jailhouse's names.
+#[derive(Clone, Copy, PartialEq, Eq)]
+pub enum CallCode {
+    HypervisorDisable,
+    CellCreate,
+    CellStart,
+    CellSetLoadable,
+    CellDestroy,
+    HypervisorGetInfo,
+    CellGetState,
+    CpuGetInfo,
+}
+
+// A code that no call has.
+#[derive(Clone, Copy, PartialEq, Eq)]
+pub struct UnknownCall(pub u32);
+
+impl TryFrom<u32> for CallCode {
+    type Error = UnknownCall;
+
+    ghost try_from_gives = { DecodesCall };
+
+    fn try_from(code: u32) -> Result<Self, UnknownCall> {
+        match code {
+            HYPERVISOR_DISABLE => Ok(CallCode::HypervisorDisable),
+            CELL_CREATE => Ok(CallCode::CellCreate),
+            CELL_START => Ok(CallCode::CellStart),
+            CELL_SET_LOADABLE => Ok(CallCode::CellSetLoadable),
+            CELL_DESTROY => Ok(CallCode::CellDestroy),
+            HYPERVISOR_GET_INFO => Ok(CallCode::HypervisorGetInfo),
+            CELL_GET_STATE => Ok(CallCode::CellGetState),
+            CPU_GET_INFO => Ok(CallCode::CpuGetInfo),
+            _ => Err(UnknownCall(code)),
+        }
+    }
+}
+
+#[derive(Clone, Copy, PartialEq, Eq)]
 pub enum Phase {
     Suspended,
     Loading,
     Started,
 }
 
-// A cell of the table: its phase and what its record says.
-#[derive(Clone, Copy)]
+// A cell of the table: its phase and what its record says. Its regions are a table with a count, as the
+// claims read them (`regions_at`), in fixed memory.
+#[derive(Clone, Copy, PartialEq, Eq)]
 pub struct Cell {
     pub phase: Phase,
     pub name: [u8; 32],
@@ -90,8 +131,17 @@ pub struct Cell {
     pub regions: [MemRegion; MAX_REGIONS],
 }
 
+impl Cell {
+    // Its regions: those that the count names.
+    pub fn regions(&self) -> &[MemRegion]
+        ensures { result.now ≡ take self.now.region_count self.now.regions }
+    {
+        region_table::in_use(&self.regions, self.region_count)
+    }
+}
+
 // The calls that may wait for cells.
-#[derive(Clone, Copy)]
+#[derive(Clone, Copy, PartialEq, Eq)]
 pub enum CallKind {
     Disable,
     Create,
@@ -103,7 +153,7 @@ pub enum CallKind {
 // How far a waiting call has come: its target (of Create the new cell), the cell that it waits for,
 // whether it asks or, its effect done, tells; and how many polls since the message have found
 // nothing, counted where that cell has a reply limit.
-#[derive(Clone, Copy)]
+#[derive(Clone, Copy, PartialEq, Eq)]
 pub struct Stage {
     pub target: usize,
     pub cell: usize,
@@ -111,14 +161,11 @@ pub struct Stage {
     pub polls: u16,
 }
 
-#[derive(Clone, Copy)]
-pub enum Waiting {
-    NoCall,
-    Pending(CallKind, Stage),
-}
+// The call that waits, and how far it has come; none where no call waits.
+pub type Waiting = Option<(CallKind, Stage)>;
 
 // Not booted yet, on, or disabled again.
-#[derive(Clone, Copy)]
+#[derive(Clone, Copy, PartialEq, Eq)]
 pub enum Power {
     Unbooted,
     On,
@@ -127,8 +174,10 @@ pub enum Power {
 
 // `system` is the record of the start, `pool_used` counts the pool pages in use, `live_ids` is the
 // set of the live cells' IDs, root's 0 included, and `root_cpus` the CPUs of the root cell. Place 0
-// of `cells` and `comms` stays empty.
-#[derive(Clone, Copy)]
+// of `cells` and `comms` stays empty. Which places are live is one set beside the tables, as the
+// definitions and the claims read it (`has_id`), so that nothing searches the tables for it; the words
+// stand apart from the cells, so that a search over all words reads 256 bytes.
+#[derive(Clone, Copy, PartialEq, Eq)]
 pub struct Machine {
     pub power: Power,
     pub system: SystemConfig,
@@ -143,7 +192,7 @@ pub struct Machine {
 
 // What a CPU does, or the shim's poll, or a line of a log that says none of these. A call with
 // code 1 comes with the bytes of its record beside it.
-#[derive(Clone, Copy)]
+#[derive(Clone, Copy, PartialEq, Eq)]
 pub enum Event {
     Call(u64, u32, u64, u64),
     Store(u64, u64, u32),
@@ -155,7 +204,7 @@ pub enum Event {
 
 // The answer to an event: a call's return code, the cell that a call waits for, `done`, or why the
 // event was not obeyed.
-#[derive(Clone, Copy)]
+#[derive(Clone, Copy, PartialEq, Eq)]
 pub enum Answer {
     Code(i32),
     Wait(usize),
@@ -168,7 +217,8 @@ pub enum Answer {
     Idle,
 }
 
-// Boot's answer and the machine after it.
+// Boot's answer and the machine after it. `code` is the number that document 01 fixes. One pair with its
+// names, as the definition has it (`boot_of`).
 #[derive(Clone, Copy)]
 pub struct Booted {
     pub code: i32,
@@ -183,15 +233,15 @@ pub struct Stepped {
 }
 
 // The number of a page of physical memory.
-#[derive(Clone, Copy)]
+#[derive(Clone, Copy, PartialEq, Eq)]
 pub struct PhysPage(pub u64);
 
 // The number of a page as a cell sees its memory.
-#[derive(Clone, Copy)]
+#[derive(Clone, Copy, PartialEq, Eq)]
 pub struct CellPage(pub u64);
 
 // What a cell may do with a page.
-#[derive(Clone, Copy)]
+#[derive(Clone, Copy, PartialEq, Eq)]
 pub struct Access {
     pub read: bool,
     pub write: bool,
@@ -199,7 +249,7 @@ pub struct Access {
 }
 
 // Who owns a physical page.
-#[derive(Clone, Copy)]
+#[derive(Clone, Copy, PartialEq, Eq)]
 pub enum Owner {
     Hypervisor,
     Cell(usize),
@@ -209,27 +259,15 @@ pub enum Owner {
 }
 
 // What a page of a cell is mapped to.
-#[derive(Clone, Copy)]
+#[derive(Clone, Copy, PartialEq, Eq)]
 pub enum Mapping {
     Page(PhysPage, Access),
     Comm,
     Unmapped,
 }
 
-// A word or a byte of a communication region; none past its end and where the cell has no region.
-#[derive(Clone, Copy)]
-pub enum RegionWord {
-    NoWord,
-    Word(u32),
-}
-
-#[derive(Clone, Copy)]
-pub enum RegionByte {
-    NoByte,
-    Byte(u8),
-}
-
 // A CPU as it is when a cell gets it: unfailed, its counters zero.
+#[tactic(auto, unfolding(crate::specs::Machine::fresh_cpu))]
 pub fn fresh_cpu(cell: usize, stopped: bool) -> Cpu
     ensures { result ≡ fresh_cpu cell stopped }
 {
@@ -242,63 +280,64 @@ pub fn fresh_cpu(cell: usize, stopped: bool) -> Cpu
 }
 
 // The communication words of a place that no cell has.
+#[tactic(auto, unfolding(crate::specs::Machine::no_comm))]
 pub fn no_comm() -> CommRegion
     ensures { result ≡ no_comm }
 {
-    CommRegion {
-        mapped: false,
-        passive: false,
-        reply_limit: 0,
-        msg_to_cell: 0,
-        reply_from_cell: 0,
-        cell_state: 0,
-    }
+    CommRegion::default()
 }
 
 // A place of the table that no cell has.
+#[tactic(auto, unfolding(crate::specs::Machine::no_cell))]
 pub fn no_cell() -> Cell
     ensures { result ≡ no_cell }
 {
-    let regions = [region_table::no_region(); MAX_REGIONS];
     Cell {
         phase: Phase::Suspended,
         name: [0; 32],
         cpus: 0,
         region_count: 0,
-        regions,
+        regions: [region_table::no_region(); MAX_REGIONS],
     }
 }
 
 // A machine with no cell but root, which has all boot CPUs, running.
-fn first_machine(power: Power, system: SystemConfig) -> Machine
-    ensures { result ≡ first_machine power system }
+#[tactic(auto, unfolding(crate::specs::Machine::first_machine))]
+fn first_machine(power: Power, system: &SystemConfig) -> Machine
+    ensures { result ≡ first_machine power system.now }
 {
-    let pool = system.pool;
     Machine {
         power,
-        system,
-        pool_used: pool.used,
+        system: *system,
+        pool_used: system.pool.used,
         live_ids: 1,
         root_cpus: system.cpus,
         cells: [no_cell(); MAX_CELLS],
         comms: [no_comm(); MAX_CELLS],
         cpus: [fresh_cpu(0, false); MAX_CPUS],
-        waiting: Waiting::NoCall,
+        waiting: None,
+    }
+}
+
+// Whether a start with this answer leaves the machine on.
+#[tactic(auto, unfolding(crate::specs::Machine::power_after))]
+fn power_after(code: i32) -> Power
+    ensures { result ≡ power_after code }
+{
+    match code {
+        0 => Power::On,
+        _ => Power::Unbooted,
     }
 }
 
 // Boots from a system record: 0 and a running machine, or the refusal and one that is off.
+#[tactic(auto, unfolding(crate::specs::Machine::boot_of, system_record::specs::SystemRecord::read_system))]
 pub fn boot(s: &[u8]) -> Booted
     ensures { result ≡ boot_of s.now }
 {
     let read = system_record::read_system(s);
-    let config = read.config;
-    let code = read.code;
-    if code == 0 {
-        let machine = first_machine(Power::On, config);
-        Booted { code, machine }
-    } else {
-        let machine = first_machine(Power::Unbooted, config);
-        Booted { code, machine }
+    Booted {
+        code: read.code,
+        machine: first_machine(power_after(read.code), &read.config),
     }
 }

@@ -1,14 +1,6 @@
 -- The table after Create and Destroy: they change it at one ID and at one set of CPUs. Each law reads a list after `set` or `map`, or the members
 -- of a set, place by place. Assumes nothing.
-use mathlib.Core.Path.{◌≡◌, refl, sym, ap, ap₂, ◌∙◌, subst}
-use mathlib.Core.Bool.{Bool, true, false, not, ◌&&◌, ◌||◌}
-use mathlib.Core.Logic.{⊎_elim}
-use mathlib.Core.List.{List}
-use Prim.Native.Nat.{ℕ, ◌+◌, ◌-◌, ◌%◌, ◌^◌, ◌<◌}
-use native.Mathlib.Omega.{arith}
-use lib.Dec.{T, ltb, eqb}
-use lib.ListN.{length, set, length-set}
-use borrow.Author.Tests.{ltb-true, ltb-false}
+use Rattle.std.proofs.Common.{◌≡◌, refl, sym, ap, ap₂, ◌∙◌, subst, Bool, true, false, not, ◌&&◌, ◌||◌, ⊎_elim, List, ℕ, ◌+◌, ◌-◌, ◌%◌, ◌^◌, ◌<◌, arith, T, ltb, eqb, length, set, length-set, ltb-true, ltb-false}
 use Rattle.base.specs.Lists.{any}
 use Rattle.base.proofs.Tests.{is_false, and_left, or_cases}
 use Rattle.base.proofs.Lists.{length-up_to}
@@ -30,18 +22,13 @@ use Rattle.reached.proofs.Table.{Table, table_of, place, by-choice, cpu-changed}
 
 -- the table with a new cell
 abbrev pub created : ℕ → CellConfig → Table → Table
-created id new t = record {
-  power = t.power;
-  system = t.system;
+created id new t = record t {
   pool = (t.pool + pool_cost new.region_count) % 2 ^ 32;
   is_live = λ k. eqb k id || t.is_live k;
   root_has = λ k. t.root_has k && not (member k new.cpus);
   config = λ k. elim (eqb k id) [ true ↦ new | false ↦ t.config k ];
   mapped = λ k. elim (eqb k id) [ true ↦ any comm (cell_regions new) | false ↦ t.mapped k ];
   owner = λ k. elim (member k new.cpus) [ true ↦ id | false ↦ t.owner k ];
-  cell_rooms = t.cell_rooms;
-  comm_rooms = t.comm_rooms;
-  cpu_rooms = t.cpu_rooms;
 }
 
 abbrev pub nothing : CellConfig
@@ -49,18 +36,13 @@ nothing = kept_in no_cell no_comm
 
 -- the table with a cell less
 abbrev pub destroyed : ℕ → Table → Table
-destroyed id t = record {
-  power = t.power;
-  system = t.system;
+destroyed id t = record t {
   pool = t.pool - pool_cost (t.config id).region_count;
   is_live = λ k. not (eqb k id) && t.is_live k;
   root_has = λ k. t.root_has k || member k (t.config id).cpus;
   config = λ k. elim (eqb k id) [ true ↦ nothing | false ↦ t.config k ];
   mapped = λ k. elim (eqb k id) [ true ↦ false | false ↦ t.mapped k ];
   owner = λ k. elim (member k (t.config id).cpus) [ true ↦ 0 | false ↦ t.owner k ];
-  cell_rooms = t.cell_rooms;
-  comm_rooms = t.comm_rooms;
-  cpu_rooms = t.cpu_rooms;
 }
 
 -- the members of a set after CPUs have left it or come to it
@@ -108,9 +90,7 @@ owner-given s id stopped cpus k l =
 pub created-table : (id : ℕ) (new : CellConfig) (m : Machine) → id < 16 → length m.cells ≡ 16 → length m.comms ≡ 16 → length m.cpus ≡ 64
     → table_of (cell_created id new m) ≡ created id new (table_of m)
 unfolding cell_created with_pool with_ids with_root_cpus cpus_changed with_cpus with_cell with_comm new_cell new_comm change_cpus
-created-table id new m h cells comms cpus = λ i. record {
-  power = m.power;
-  system = m.system;
+created-table id new m h cells comms cpus = λ i. record (table_of m) {
   pool = (m.pool_used + pool_cost new.region_count) % 2 ^ 32;
   is_live = λ k. has-added id m.live_ids k h i;
   root_has = λ k. member-without m.root_cpus new.cpus k i;
@@ -131,9 +111,7 @@ created-table id new m h cells comms cpus = λ i. record {
 pub destroyed-table : (id : ℕ) (m : Machine) → id < 16 → length m.cells ≡ 16 → length m.comms ≡ 16 → length m.cpus ≡ 64
     → table_of (cell_destroyed id m) ≡ destroyed id (table_of m)
 unfolding cell_destroyed no_comm with_pool with_ids with_root_cpus cpus_changed with_cpus with_cell with_comm change_cpus
-destroyed-table id m h cells comms cpus = λ i. record {
-  power = m.power;
-  system = m.system;
+destroyed-table id m h cells comms cpus = λ i. record (table_of m) {
   pool = m.pool_used - pool_cost (cell_at m id).region_count;
   is_live = λ k. has-dropped id m.live_ids k i;
   root_has = λ k. member_union m.root_cpus (cell_at m id).cpus k i;

@@ -1,14 +1,8 @@
 -- The claims about CPU owners, the pool and live cells follow from the agreement of machine and history in every state reached. A CPU's owner is
 -- found by one search through the cells, which names the one cell that has it, or none. Assumes nothing.
-use mathlib.Core.Path.{◌≡◌, refl, sym, ap, ◌∙◌, subst}
-use mathlib.Core.Bool.{Bool, true, false, not, ◌&&◌, ◌||◌, true≢false}
-use mathlib.Core.Logic.{◌⊎◌, inl, inr}
-use mathlib.Core.List.{[]}
-use Prim.Native.Nat.{ℕ, ◌+◌, ◌≤◌}
-use native.Mathlib.Nat.{mod-eq_of_lt}
-use native.Mathlib.Omega.{arith}
-use native.Mathlib.Decide.{ℕ_discrete}
-use lib.Dec.{ltb, eqb, eqb→eq, le→leb}
+use Rattle.std.proofs.Common.{◌≡◌, refl, sym, ap, ◌∙◌, subst, Bool, true, false, not, ◌&&◌, ◌||◌, true≢false, inl, inr, [], ℕ, ◌+◌, ◌≤◌, mod-eq_of_lt, arith, ltb, eqb, le→leb, eq-eqb, eqb-true, ne_eqb, None, Some}
+use Rattle.std.proofs.lemmas.Bool.{and_from, and_parts, both_ways}
+use Rattle.std.proofs.Math.Decide.{ℕ_discrete}
 use Rattle.base.specs.Lists.{any}
 use Rattle.base.proofs.Tests.{holds, fails, is_true, eq→eqb, equal-tests}
 use Rattle.cpu_set.specs.CpuSet.{member}
@@ -17,22 +11,21 @@ use Rattle.system_record.specs.declared.SystemConfig.{SystemConfig}
 use Rattle.cell_record.specs.declared.CellConfig.{CellConfig}
 use Rattle.cell_record.specs.CellRecord.{cell_regions}
 use Rattle.machine_state.specs.declared.Power.TheVariants.{Disabled}
-use Rattle.machine_state.specs.declared.Waiting.{Waiting}
-use Rattle.machine_state.specs.declared.Waiting.TheVariants.{NoCall, Pending}
+use Rattle.machine_state.specs.Machine.{Waiting}
 use Rattle.machine_state.specs.declared.Machine.{Machine}
-use Rattle.rules.specs.State.{cell_at, cpu_at, cell_ids, no_id, first, live, or_root, named_by, cpu_owner, waits}
+use Rattle.rules.specs.State.{cell_at, cpu_at, cell_ids, no_id, first, live, or_root, named_by, cpu_owner, waits, waited_for}
 use Rattle.rules.specs.Unobeyed.{is_on}
 use Rattle.rules.specs.Step.{step}
-use Rattle.rules.proofs.Ids.{Found, None, first-from, first-same}
+use Rattle.rules.proofs.Ids.{Search, first-from, first-same}
 use Rattle.history.specs.History.{History, has_cell, record_brought}
-use Rattle.reached.specs.Kept.{kept, waited_for}
+use Rattle.reached.specs.Kept.{kept}
 use Rattle.reached.specs.Owners.{names, cpu_owner_in, cpus_of, OneOwner, OneOwnerAlways}
 use Rattle.reached.specs.Pool.{costs, PoolFigure, PoolFigureAlways}
 use Rattle.reached.specs.LiveCells.{LiveCells, LiveCellsAlways}
-use Rattle.reached.proofs.Members.{and_parts, and_both, clash, chosen, passed}
+use Rattle.reached.proofs.Members.{chosen, passed}
 use Rattle.reached.proofs.Table.{Table, table_of}
 use Rattle.reached.proofs.Sound.{IsCell, Names, Sound, subset-member}
-use Rattle.reached.proofs.Cells.{equal, unequal, costs-without}
+use Rattle.reached.proofs.Cells.{costs-without}
 use Rattle.reached.proofs.Walk.{WaitsWell, Agrees}
 use Rattle.reached.proofs.Runs.{reached-agrees}
 
@@ -49,7 +42,7 @@ module _ (boot : SystemConfig) (h : History) (m : Machine) (a : Agrees boot h m)
   -- ---- cells of the history are the live cells other than root
 
   not-zero : (id : ℕ) → Has id → id ≡ 0 → ⊥
-  not-zero id e q = clash e (ap (λ (n : ℕ). has_cell n h.cells) q ∙ a.settled.follows.no-root)
+  not-zero id e q = both_ways _ (ap (λ (n : ℕ). has_cell n h.cells) q ∙ a.settled.follows.no-root) e
 
   is-cell : (id : ℕ) → Has id → IsCell t id
   is-cell id e = record { other = not-zero id e; lives = a.settled.follows.lives id (not-zero id e) ∙ e }
@@ -70,7 +63,7 @@ module _ (boot : SystemConfig) (h : History) (m : Machine) (a : Agrees boot h m)
 
   names-it : (cpu id : ℕ) → IsCell t id → Names (kept m id) cpu → names h cpu id ≡ true
   unfolding names
-  names-it cpu id c n = and_both (has-cell id c) (subst (λ (c : CellConfig). Names c cpu) (config id (has-cell id c)) n)
+  names-it cpu id c n = and_from _ _ (has-cell id c) (subst (λ (c : CellConfig). Names c cpu) (config id (has-cell id c)) n)
 
   one : (cpu i j : ℕ) → names h cpu i ≡ true → names h cpu j ≡ true → i ≡ j
   one cpu i j e f = go (ℕ_discrete i j)
@@ -90,11 +83,11 @@ module _ (boot : SystemConfig) (h : History) (m : Machine) (a : Agrees boot h m)
   unfolding cpu_owner_in or_root
   owner cpu = go (first-from (names h cpu) 1 15)
     where
-      go : Found (names h cpu) 1 15 (first (names h cpu) cell_ids) ⊎ (None (names h cpu) 1 15 × (first (names h cpu) cell_ids ≡ no_id)) → Owner cpu
+      go : Search (names h cpu) 1 15 (first (names h cpu) cell_ids) → Owner cpu
       go (inl f) = cell (first (names h cpu) cell_ids) (chosen _ _ (is_true (ltb (first (names h cpu) cell_ids) no_id) (le→leb _ _ f.high))) f.passes
       go (inr f) =
           root (ap or_root f.1)
-          (λ i c n. let low : 1 ≤ i = positive i c.other in clash (names-it cpu i c n) (f.0 i low (s.few i c.lives)))
+          (λ i c n. let low : 1 ≤ i = positive i c.other in both_ways _ (f.0 i low (s.few i c.lives)) (names-it cpu i c n))
         where
           positive : (i : ℕ) → (i ≡ 0 → ⊥) → 1 ≤ i
           positive i n = omega arith
@@ -140,10 +133,10 @@ module _ (boot : SystemConfig) (h : History) (m : Machine) (a : Agrees boot h m)
       there : t.root_has cpu ≡ true → (member cpu boot.cpus && eqb (cpu_owner_in h cpu) 0) ≡ true
       there r =
           let b : Started cpu = sym (boot-set cpu) ∙ s.root-started cpu r in
-          and_both b (ap (λ (n : ℕ). eqb n 0) (sym (says cpu b) ∙ s.root-owns cpu r))
+          and_from _ _ b (ap (λ (n : ℕ). eqb n 0) (sym (says cpu b) ∙ s.root-owns cpu r))
 
       back : Started cpu × (eqb (cpu_owner_in h cpu) 0 ≡ true) → Owner cpu → t.root_has cpu ≡ true
-      back e (cell id q n) = absurd ((named cpu id n).0.other (sym q ∙ eqb→eq (cpu_owner_in h cpu) 0 (holds e.1)))
+      back e (cell id q n) = absurd ((named cpu id n).0.other (sym q ∙ eqb-true (cpu_owner_in h cpu) 0 e.1))
       back e (root q none) = of-root cpu e.0 none
 
   cell_set : (id cpu : ℕ) → IsCell t id → member cpu (cell_at m id).cpus ≡ (member cpu boot.cpus && eqb (cpu_owner_in h cpu) id)
@@ -152,11 +145,11 @@ module _ (boot : SystemConfig) (h : History) (m : Machine) (a : Agrees boot h m)
       there : Names (kept m id) cpu → (member cpu boot.cpus && eqb (cpu_owner_in h cpu) id) ≡ true
       there n =
           let b : Started cpu = sym (boot-set cpu) ∙ subset-member _ _ cpu (s.valid id c).started n in
-          and_both b (ap (λ (x : ℕ). eqb x id) (sym (says cpu b) ∙ s.cell-owns cpu id c n) ∙ equal id)
+          and_from _ _ b (ap (λ (x : ℕ). eqb x id) (sym (says cpu b) ∙ s.cell-owns cpu id c n) ∙ eq-eqb id id refl)
 
       back : Started cpu × (eqb (cpu_owner_in h cpu) id ≡ true) → Owner cpu → Names (kept m id) cpu
-      back e (cell i q n) = subst (λ (x : ℕ). Names (kept m x) cpu) (sym q ∙ eqb→eq (cpu_owner_in h cpu) id (holds e.1)) (named cpu i n).1
-      back e (root q none) = absurd (c.other (sym (eqb→eq (cpu_owner_in h cpu) id (holds e.1)) ∙ q))
+      back e (cell i q n) = subst (λ (x : ℕ). Names (kept m x) cpu) (sym q ∙ eqb-true (cpu_owner_in h cpu) id e.1) (named cpu i n).1
+      back e (root q none) = absurd (c.other (sym (eqb-true (cpu_owner_in h cpu) id e.1) ∙ q))
 
   sets : (id cpu : ℕ) → live m id ≡ true → member cpu (cpus_of m id) ≡ (member cpu boot.cpus && eqb (cpu_owner_in h cpu) id)
   unfolding cpus_of
@@ -165,7 +158,7 @@ module _ (boot : SystemConfig) (h : History) (m : Machine) (a : Agrees boot h m)
       go : (b : Bool) → eqb id 0 ≡ b → member cpu (cpus_of m id) ≡ (member cpu boot.cpus && eqb (cpu_owner_in h cpu) id)
       go true e =
           ap (member cpu) (chosen _ _ e) ∙ root-set cpu
-          ∙ ap (λ (n : ℕ). member cpu boot.cpus && eqb (cpu_owner_in h cpu) n) (sym (eqb→eq id 0 (holds e)))
+          ∙ ap (λ (n : ℕ). member cpu boot.cpus && eqb (cpu_owner_in h cpu) n) (sym (eqb-true id 0 e))
       go false e = ap (member cpu) (passed _ _ e) ∙ cell_set id cpu (record { other = λ q. fails e (eq→eqb id 0 q); lives = l })
 
   one-owner : OneOwner boot h m
@@ -180,7 +173,7 @@ module _ (boot : SystemConfig) (h : History) (m : Machine) (a : Agrees boot h m)
   pages = ap (λ (c : SystemConfig). c.pool.pages) a.settled.follows.booted
 
   pool-figure : PoolFigure boot h m
-  unfolding costs is_on
+  unfolding costs
   pool-figure = record {
     sum = sum;
     within = subst (λ (n : ℕ). m.pool_used ≤ n) pages s.pool-fits;
@@ -198,14 +191,14 @@ module _ (boot : SystemConfig) (h : History) (m : Machine) (a : Agrees boot h m)
   -- ---- live cells
 
   waiting-cell : (w : Waiting) → WaitsWell t w → waits w ≡ true → IsCell t (waited_for w) × ((kept m (waited_for w)).passive ≡ false)
-  unfolding waits waited_for
-  waiting-cell NoCall x e = absurd (true≢false (sym e))
-  waiting-cell (Pending kind stage) x e = (x.messaged.cell, x.messaged.active-one)
+  unfolding waited_for
+  waiting-cell None x e = absurd (true≢false (sym e))
+  waiting-cell (Some (kind, stage)) x e = (x.messaged.cell, x.messaged.active-one)
 
   waits-at : (w : Waiting) → WaitsWell t w → waits w ≡ not (eqb (waited_for w) 0)
-  unfolding waits waited_for
-  waits-at NoCall x = refl
-  waits-at (Pending kind stage) x = sym (ap not (unequal x.messaged.cell.other))
+  unfolding waited_for
+  waits-at None x = refl
+  waits-at (Some (kind, stage)) x = sym (ap not (ne_eqb _ _ x.messaged.cell.other))
 
   waited : waits m.waiting ≡ true → IsCell t h.waits_for × ((kept m h.waits_for).passive ≡ false)
   waited e = subst (λ (n : ℕ). IsCell t n × ((kept m n).passive ≡ false)) a.waited (waiting-cell m.waiting a.waits e)
@@ -224,7 +217,7 @@ module _ (boot : SystemConfig) (h : History) (m : Machine) (a : Agrees boot h m)
   }
     where
       go : (id : ℕ) (b : Bool) → eqb id 0 ≡ b → live m id ≡ (eqb id 0 || has_cell id h.cells)
-      go id true e = ap (live m) (eqb→eq id 0 (holds e)) ∙ s.root-lives ∙ sym (ap (λ (b : Bool). b || has_cell id h.cells) e)
+      go id true e = ap (live m) (eqb-true id 0 e) ∙ s.root-lives ∙ sym (ap (λ (b : Bool). b || has_cell id h.cells) e)
       go id false e = a.settled.follows.lives id (λ q. fails e (eq→eqb id 0 q)) ∙ sym (ap (λ (b : Bool). b || has_cell id h.cells) e)
 
 -- ---- in every state reached

@@ -1,20 +1,15 @@
 -- Create keeps the invariant: a new cell takes its CPUs from root, whose set has no CPU of another cell, and a region of it that meets another
 -- cell's is shared in both. Assumes nothing.
-use mathlib.Core.Path.{◌≡◌, refl, sym, ap, ◌∙◌, subst}
-use mathlib.Core.Bool.{Bool, true, false, not, ◌&&◌, ◌||◌}
-use mathlib.Core.Logic.{◌⊎◌, inl, inr}
-use Prim.Native.Nat.{ℕ, ◌+◌, ◌%◌, ◌^◌, ◌≤◌, ◌<◌}
-use native.Mathlib.Nat.{mod-eq_of_lt}
-use native.Mathlib.Omega.{arith}
-use lib.Dec.{eqb, eqb→eq}
+use Rattle.std.proofs.Common.{◌≡◌, refl, sym, ap, ◌∙◌, subst, Bool, true, false, not, ◌&&◌, ◌||◌, ◌⊎◌, inl, inr, ℕ, ◌+◌, ◌%◌, ◌^◌, ◌≤◌, ◌<◌, mod-eq_of_lt, arith, eqb, eqb-true, ne_eqb}
+use Rattle.std.proofs.lemmas.Bool.{and_from, and_parts, both_ways, false_from_ne_true, not-true, or_cases, or_left, or_right}
 use Rattle.base.specs.Lists.{any}
-use Rattle.base.proofs.Tests.{is_true, holds, fails, eq→eqb}
+use Rattle.base.proofs.Tests.{is_true, fails, eq→eqb}
 use Rattle.cpu_set.specs.CpuSet.{member}
 use Rattle.regions.specs.Regions.{comm}
 use Rattle.cell_record.specs.declared.CellConfig.{CellConfig}
 use Rattle.cell_record.specs.CellRecord.{cell_regions}
 use Rattle.rules.specs.Effects.{pool_cost}
-use Rattle.reached.proofs.Members.{and_parts, and_both, or_left, or_right, or-either, is-not, not-true, clash, chosen, passed}
+use Rattle.reached.proofs.Members.{chosen, passed}
 use Rattle.reached.proofs.Table.{Table}
 use Rattle.reached.proofs.Changes.{created}
 use Rattle.reached.proofs.Sound.{Fits, IsCell, Names, Clear, Valid, Sound, clear-sym, clear_both}
@@ -32,24 +27,24 @@ module _ (t : Table) (id : ℕ) (new : CellConfig) (s : Sound t) (f : Fits t id 
   view i c = go (eqb i id) refl c.lives
     where
       go : (b : Bool) → eqb i id ≡ b → (eqb i id || t.is_live i) ≡ true → Cell i
-      go true e l = fresh (eqb→eq i id (holds e)) (chosen _ _ e) (chosen _ _ e)
+      go true e l = fresh (eqb-true i id e) (chosen _ _ e) (chosen _ _ e)
       go false e l = older (λ q. fails e (eq→eqb i id q)) (record { other = c.other; lives = sym (ap (λ (b : Bool). b || t.is_live i) e) ∙ l }) (passed _ _ e) (passed _ _ e)
 
   -- a cell from before is one of the new table
   stays : (i : ℕ) → IsCell t i → IsCell next i
-  stays i c = record { other = c.other; lives = or_right (eqb i id) c.lives }
+  stays i c = record { other = c.other; lives = or_right (eqb i id) _ c.lives }
 
   distinct : (i : ℕ) → IsCell t i → i ≡ id → ⊥
-  distinct i c e = clash c.lives (ap t.is_live e ∙ f.free)
+  distinct i c e = both_ways _ (ap t.is_live e ∙ f.free) c.lives
 
   config-old : (i : ℕ) → IsCell t i → next.config i ≡ t.config i
-  config-old i c = let e : eqb i id ≡ false = not-true (λ q. distinct i c (eqb→eq i id (holds q))) in passed _ _ e
+  config-old i c = let e : eqb i id ≡ false = ne_eqb i id (distinct i c) in passed _ _ e
 
   config-new : next.config id ≡ new
   config-new = let e : eqb id id ≡ true = is_true (eqb id id) (eq→eqb id id refl) in chosen _ _ e
 
   is-new : IsCell next id
-  is-new = record { other = f.other; lives = or_left (t.is_live id) (is_true (eqb id id) (eq→eqb id id refl)) }
+  is-new = record { other = f.other; lives = or_left _ (t.is_live id) (is_true (eqb id id) (eq→eqb id id refl)) }
 
   -- no other cell has a CPU of the new one's
   not-others : (k i : ℕ) → IsCell t i → Names (t.config i) k → Names new k → ⊥
@@ -65,8 +60,8 @@ module _ (t : Table) (id : ℕ) (new : CellConfig) (s : Sound t) (f : Fits t id 
     cpus-room = s.cpus-room;
     accepted = s.accepted;
     pool-small = s.pool-small;
-    root-lives = or_right (eqb 0 id) s.root-lives;
-    few = λ i l. live-few i (or-either (eqb i id) (t.is_live i) l);
+    root-lives = or_right (eqb 0 id) _ s.root-lives;
+    few = λ i l. live-few i (or_cases (eqb i id) (t.is_live i) l);
     valid = λ i c. cell-valid i (view i c);
     with-region = λ i c. cell-region i (view i c);
     apart = λ i j c d n. cells-apart i j (view i c) (view j d) n;
@@ -79,7 +74,7 @@ module _ (t : Table) (id : ℕ) (new : CellConfig) (s : Sound t) (f : Fits t id 
   }
     where
       live-few : (i : ℕ) → (eqb i id ≡ true) ⊎ (t.is_live i ≡ true) → i < 16
-      live-few i (inl e) = subst (λ (n : ℕ). n < 16) (sym (eqb→eq i id (holds e))) f.below
+      live-few i (inl e) = subst (λ (n : ℕ). n < 16) (sym (eqb-true i id e)) f.below
       live-few i (inr l) = s.few i l
 
       cell-valid : (i : ℕ) → Cell i → Valid t.system (next.config i)
@@ -97,26 +92,24 @@ module _ (t : Table) (id : ℕ) (new : CellConfig) (s : Sound t) (f : Fits t id 
       cells-apart i j (older e c q w) (older e2 d q2 w2) n = clear_both _ _ _ _ q q2 (s.apart i j c d n)
 
       free : (k : ℕ) → (t.root_has k ≡ true) × (not (member k new.cpus) ≡ true) → (i : ℕ) → Cell i → Names (next.config i) k → ⊥
-      free k r i (fresh e q w) n = clash (subst (λ (c : CellConfig). Names c k) q n) (is-not (member k new.cpus) r.1)
+      free k r i (fresh e q w) n = both_ways _ (not-true (member k new.cpus) r.1) (subst (λ (c : CellConfig). Names c k) q n)
       free k r i (older e c q w) n = s.root-free k r.0 i c (subst (λ (c : CellConfig). Names c k) q n)
 
       rest : (k : ℕ) → member k t.system.cpus ≡ true → ((i : ℕ) → IsCell next i → Names (next.config i) k → ⊥)
           → (t.root_has k && not (member k new.cpus)) ≡ true
       rest k b none =
-          let unnamed : member k new.cpus ≡ false = not-true (λ n. none id is-new (subst (λ (c : CellConfig). Names c k) (sym config-new) n)) in
-          and_both
-          (s.root-rest k b (λ i c n. none i (stays i c) (subst (λ (c : CellConfig). Names c k) (sym (config-old i c)) n)))
-          (ap not unnamed)
+          let unnamed : member k new.cpus ≡ false = false_from_ne_true _ (λ n. none id is-new (subst (λ (c : CellConfig). Names c k) (sym config-new) n)) in
+          and_from _ _ (s.root-rest k b (λ i c n. none i (stays i c) (subst (λ (c : CellConfig). Names c k) (sym (config-old i c)) n))) (ap not unnamed)
 
       owns : (k i : ℕ) → Cell i → Names (next.config i) k → next.owner k ≡ i
       owns k i (fresh e q w) n = let given : Names new k = subst (λ (c : CellConfig). Names c k) q n in chosen _ _ given ∙ sym e
       owns k i (older e c q w) n =
           let named : Names (t.config i) k = subst (λ (c : CellConfig). Names c k) q n in
-          let kept : member k new.cpus ≡ false = not-true (λ w. not-others k i c named w) in
+          let kept : member k new.cpus ≡ false = false_from_ne_true _ (λ w. not-others k i c named w) in
           passed _ _ kept ∙ s.cell-owns k i c named
 
       root : (k : ℕ) → (t.root_has k ≡ true) × (not (member k new.cpus) ≡ true) → next.owner k ≡ 0
-      root k r = let kept : member k new.cpus ≡ false = is-not (member k new.cpus) r.1 in passed _ _ kept ∙ s.root-owns k r.0
+      root k r = let kept : member k new.cpus ≡ false = not-true (member k new.cpus) r.1 in passed _ _ kept ∙ s.root-owns k r.0
 
       small : (t.pool + pool_cost new.region_count) % 2 ^ 32 ≡ t.pool + pool_cost new.region_count
       small = mod-eq_of_lt (omega (arith, f.room, s.pool-small))

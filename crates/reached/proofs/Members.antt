@@ -1,50 +1,12 @@
 -- Tests of all and of some elements of a list, for one element that is in it. Each follows by induction on the place of the element, or on the
 -- list. Assumes nothing.
-use mathlib.Core.Path.{◌≡◌, refl, sym, ap, ◌∙◌}
-use mathlib.Core.Bool.{Bool, true, false, not, ◌&&◌, ◌||◌, true≢false}
-use mathlib.Core.Logic.{◌⊎◌, inl, inr}
+use Rattle.std.proofs.Common.{◌≡◌, refl, sym, ap, ◌∙◌, Bool, true, false, ◌||◌, true≢false, ◌⊎◌, inl, inr, List, [], ◌∷◌}
+use Rattle.std.proofs.lemmas.Bool.{and_parts, both_ways, false_from_ne_true, or_cases, or_left, or_right}
+use mathlib.Core.List.{Memᴰ}
 use mathlib.Core.List.Memᴰ
-use mathlib.Core.List.{List, [], ◌∷◌, Memᴰ}
 use Rattle.base.specs.Lists.{all, any, pairwise}
 
 -- ---- tests joined
-
-pub and_parts : (a b : Bool) → (a && b) ≡ true → (a ≡ true) × (b ≡ true)
-and_parts true b e = (refl, e)
-and_parts false b e = absurd (true≢false (sym e))
-
-pub and_both : {a b : Bool} → a ≡ true → b ≡ true → (a && b) ≡ true
-and_both e f = rw (e, f)
-
-pub or-neither : (a b : Bool) → (a || b) ≡ false → (a ≡ false) × (b ≡ false)
-or-neither true b e = absurd (true≢false e)
-or-neither false b e = (refl, e)
-
-pub or_left : {a : Bool} (b : Bool) → a ≡ true → (a || b) ≡ true
-or_left b e = rw e
-
-pub or_right : (a : Bool) {b : Bool} → b ≡ true → (a || b) ≡ true
-or_right true e = refl
-or_right false e = e
-
-pub or-either : (a b : Bool) → (a || b) ≡ true → (a ≡ true) ⊎ (b ≡ true)
-or-either true b e = inl refl
-or-either false b e = inr e
-
-pub is-not : (a : Bool) → not a ≡ true → a ≡ false
-is-not true e = sym e
-is-not false e = refl
-
-pub is-it : (a : Bool) → not a ≡ false → a ≡ true
-is-it true e = refl
-is-it false e = absurd (true≢false e)
-
-pub not-true : {a : Bool} → (a ≡ true → ⊥) → a ≡ false
-not-true {a = true} f = absurd (f refl)
-not-true {a = false} f = refl
-
-pub clash : {a : Bool} → a ≡ true → a ≡ false → ⊥
-clash e f = true≢false (sym e ∙ f)
 
 -- a choice by a test that is known
 pub chosen : {A : Type 0} {b : Bool} (x y : A) → b ≡ true → elim b [ true ↦ x | false ↦ y ] ≡ x
@@ -57,7 +19,6 @@ passed x y e = rw e
 
 module _ {A : Type 0} where
   pub all_of : (p : A → Bool) (xs : List A) → all p xs ≡ true → (x : A) → Memᴰ x xs → p x ≡ true
-  unfolding all
   all_of p [] e x i = absurd (Memᴰ.not-nil i)
   all_of p (y ∷ ys) e x i = go (and_parts (p y) (all p ys) e) (Memᴰ.cases_cons i) (all_of p ys)
     where
@@ -66,16 +27,15 @@ module _ {A : Type 0} where
       go (s, t) (inr j) more = more t x j
 
   pub any_of : (p : A → Bool) (xs : List A) (x : A) → Memᴰ x xs → p x ≡ true → any p xs ≡ true
-  unfolding any
   any_of p [] x i e = absurd (Memᴰ.not-nil i)
   any_of p (y ∷ ys) x i e = go (Memᴰ.cases_cons i) (λ j. any_of p ys x j e)
     where
       go : (x ≡ y) ⊎ Memᴰ x ys → (Memᴰ x ys → any p ys ≡ true) → (p y || any p ys) ≡ true
-      go (inl q) more = or_left (any p ys) (sym (ap p q) ∙ e)
-      go (inr j) more = or_right (p y) (more j)
+      go (inl q) more = or_left _ (any p ys) (sym (ap p q) ∙ e)
+      go (inr j) more = or_right (p y) _ (more j)
 
   pub none_of : (p : A → Bool) (xs : List A) → any p xs ≡ false → (x : A) → Memᴰ x xs → p x ≡ false
-  none_of p xs e x i = not-true (λ t. clash (any_of p xs x i t) e)
+  none_of p xs e x i = false_from_ne_true _ (λ t. both_ways _ e (any_of p xs x i t))
 
   -- an element that passes, where some does
   pub record Passes (p : A → Bool) (xs : List A) : Type 0 where
@@ -84,9 +44,8 @@ module _ {A : Type 0} where
     pub passes : p element ≡ true
 
   pub some_of : (p : A → Bool) (xs : List A) → any p xs ≡ true → Passes p xs
-  unfolding any
   some_of p [] e = absurd (true≢false (sym e))
-  some_of p (y ∷ ys) e = go (or-either (p y) (any p ys) e) (some_of p ys)
+  some_of p (y ∷ ys) e = go (or_cases (p y) (any p ys) e) (some_of p ys)
     where
       go : (p y ≡ true) ⊎ (any p ys ≡ true) → (any p ys ≡ true → Passes p ys) → Passes p (y ∷ ys)
       go (inl t) more = record { element = y; is_in = Memᴰ.head refl; passes = t }

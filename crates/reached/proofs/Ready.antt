@@ -1,13 +1,8 @@
 -- What the tables of refusals have shown when a call goes on to ask: a record that fits for Create, a live target for Destroy. And what a cell
 -- is that a call messages: live, not root and not passive. Assumes nothing.
-use mathlib.Core.Path.{◌≡◌, refl, sym, ap, ◌∙◌}
-use mathlib.Core.Bool.{Bool, true, false, not, ◌&&◌, ◌||◌, true≢false}
-use mathlib.Core.Logic.{◌⊎◌, inl, inr}
-use mathlib.Core.List.{List, Memᴰ}
-use Prim.Native.Nat.{ℕ, ◌+◌, ◌≤◌, ◌<◌}
-use native.Mathlib.Omega.{arith}
-use lib.Dec.{ltb, eqb}
-use borrow.Author.Tests.{ltb-false}
+use Rattle.std.proofs.Common.{◌≡◌, refl, sym, ap, ◌∙◌, Bool, true, false, not, ◌&&◌, ◌||◌, true≢false, inl, inr, List, ℕ, ◌+◌, ◌≤◌, ◌<◌, arith, ltb, eqb, ltb-false}
+use Rattle.std.proofs.lemmas.Bool.{and_parts, not-true, or_parts}
+use mathlib.Core.List.{Memᴰ}
 use Rattle.base.specs.Lists.{any}
 use Rattle.base.proofs.Tests.{fails, eq→eqb}
 use Rattle.cpu_set.specs.CpuSet.{member, subset}
@@ -18,8 +13,8 @@ use Rattle.rules.specs.State.{root_id, cell_ids, no_id, first, live, active, is_
 use Rattle.rules.specs.Effects.{pool_cost}
 use Rattle.rules.specs.Create.{invalid, conflict, conflicts, region_in_use, busy, free_id, no_room}
 use Rattle.rules.specs.Asking.{may_be_messaged, next_to_message}
-use Rattle.rules.proofs.Ids.{Found, None, first-from, any-from-false}
-use Rattle.reached.proofs.Members.{and_parts, or-neither, is-not, none_of}
+use Rattle.rules.proofs.Ids.{Found, Search, first-from, any-from-false}
+use Rattle.reached.proofs.Members.{none_of}
 use Rattle.reached.proofs.Table.{Table, table_of}
 use Rattle.reached.proofs.Sound.{Fits, IsCell, Sound, subset-member}
 
@@ -37,8 +32,8 @@ messaged m id e =
     let more : ((not (eqb id root_id) && live m id) ≡ true) × (not (is_final (state_at m id)) ≡ true) = and_parts (not (eqb id root_id) && live m id) _ parts.0 in
     let names : (not (eqb id root_id) ≡ true) × (live m id ≡ true) = and_parts (not (eqb id root_id)) (live m id) more.0 in
     record {
-      cell = record { other = λ q. fails (is-not (eqb id root_id) names.0) (eq→eqb id root_id q); lives = names.1 };
-      active-one = is-not (comm_at m id).passive parts.1;
+      cell = record { other = λ q. fails (not-true (eqb id root_id) names.0) (eq→eqb id root_id q); lives = names.1 };
+      active-one = not-true (comm_at m id).passive parts.1;
     }
 
 pub next-is : (among : ℕ → Bool) (after : ℕ) (m : Machine) → ltb (next_to_message among after m) no_id ≡ true
@@ -49,7 +44,7 @@ next-is among after m e = go (first-from test 1 15)
     test : ℕ → Bool
     test id = ltb after id && among id && may_be_messaged m id
 
-    go : Found test 1 15 (first test cell_ids) ⊎ (None test 1 15 × (first test cell_ids ≡ no_id))
+    go : Search test 1 15 (first test cell_ids)
         → (among (first test cell_ids) ≡ true) × Messaged (table_of m) (first test cell_ids)
     go (inl f) =
         let found : ℕ = first test cell_ids in
@@ -86,7 +81,7 @@ fits m caller bytes s e f g = record {
   valid = record { rules = rules.0; started = rules.1 };
   from-root = λ k n. subset-member _ _ k free.0 n;
   regions = λ i c r t p q. no-conflict m (cell_regions (cell_of bytes)) free.1 i c (s.few i c.lives) r t p q;
-  free = is-not (live m (free_id m)) found.passes;
+  free = not-true (live m (free_id m)) found.passes;
   other = λ q. let low : 1 ≤ free_id m = found.low in omega arith;
   below = found.high;
   room = ltb-false m.system.pool.pages (m.pool_used + pool_cost (cell_of bytes).region_count) room.1;
@@ -99,11 +94,11 @@ fits m caller bytes s e f g = record {
     free = not-busy (member caller (cell_of bytes).cpus) _ _ f
 
     room : (eqb (free_id m) no_id ≡ false) × (ltb m.system.pool.pages (m.pool_used + pool_cost (cell_of bytes).region_count) ≡ false)
-    room = or-neither (eqb (free_id m) no_id) _ g
+    room = or_parts (eqb (free_id m) no_id) _ g
 
     found : Found (λ id. not (live m id)) 1 15 (free_id m)
     found = go (first-from (λ id. not (live m id)) 1 15)
       where
-        go : Found (λ id. not (live m id)) 1 15 (free_id m) ⊎ (None (λ id. not (live m id)) 1 15 × (free_id m ≡ no_id)) → Found (λ id. not (live m id)) 1 15 (free_id m)
+        go : Search (λ id. not (live m id)) 1 15 (free_id m) → Found (λ id. not (live m id)) 1 15 (free_id m)
         go (inl f) = f
         go (inr f) = absurd (fails room.0 (eq→eqb (free_id m) no_id f.1))

@@ -1,16 +1,8 @@
 -- The agreement of machine and history, from an accepted start and through every list of lines. Boot's rules give it at the start, where there
 -- is no cell but root; each line keeps it. Assumes nothing.
-use mathlib.Core.Path.{◌≡◌, refl, sym, ap, ◌∙◌, subst}
-use mathlib.Core.Bool.{Bool, true, false, not, ◌&&◌, ◌||◌, true≢false}
-use mathlib.Core.List.{List, [], ◌∷◌}
-use Prim.Native.Nat.{ℕ, ◌-◌, ◌^◌, ◌≤◌, ◌<◌}
-use native.Mathlib.Nat.{add-zero}
-use native.Mathlib.Omega.{arith}
-use lib.Dec.{leb, ltb, eqb, eqb→eq}
-use lib.IntN.{ℤ, pos, negsuc}
-use lib.ListN.{replicate, length-replicate, get_or-replicate, get_or-eq_default}
-use borrow.Author.Tests.{ltb-true, ltb-false}
-use Rattle.base.specs.Lists.{any}
+use Rattle.std.proofs.Common.{◌≡◌, refl, sym, ap, ◌∙◌, subst, Bool, true, false, not, ◌&&◌, ◌||◌, true≢false, List, [], ◌∷◌, ℕ, ◌-◌, ◌^◌, ◌≤◌, ◌<◌, add-zero, arith, leb, ltb, eqb, ℤ, pos, negsuc, replicate, ltb-true, ltb-false, eqb-true, None, Some}
+use Rattle.std.proofs.lemmas.Bool.{and_parts, false_from_ne_true, not-false, or_parts}
+use Rattle.std.proofs.Math.ListN.{length-replicate, get_or-replicate, get_or-eq_default}
 use Rattle.base.proofs.Rules.{by-rule, by-none}
 use Rattle.base.proofs.Tests.{holds}
 use Rattle.cpu_set.specs.CpuSet.{is_empty}
@@ -26,17 +18,15 @@ use Rattle.machine_state.specs.declared.Power.{Power}
 use Rattle.machine_state.specs.declared.Machine.{Machine}
 use Rattle.machine_state.specs.declared.Stepped.{Stepped}
 use Rattle.machine_state.specs.Machine.{fresh_cpu, no_cell, no_comm, first_machine, power_after, boot_of, past_cpu, cpu_in}
-use Rattle.rules.specs.State.{root_id, has_id, waits, with_cpus, with_comm, answered}
+use Rattle.rules.specs.State.{root_id, has_id, waits, with_cpus, with_comm, answered, waited_for}
 use Rattle.rules.specs.Unobeyed.{is_on, unobeyed}
 use Rattle.rules.specs.Effects.{counted, call_counter, exit_counter, stored, faulted}
 use Rattle.rules.specs.Answers.{is_negative}
 use Rattle.rules.specs.Step.{obeyed, step}
 use Rattle.rules.specs.Run.{Line, run, after, Accepted, start_of}
 use Rattle.rules.proofs.Ids.{has_id-lt, has-where}
-use Rattle.history.specs.History.{History, Ahead, Nothing, Effect, has_cell, nothing_yet, answered_by, after_call, after_poll, after_telling, seen, history_from, history}
-use Rattle.reached.specs.Kept.{waited_for}
+use Rattle.history.specs.History.{History, Ahead, has_cell, nothing_yet, answered_by, after_call, after_poll, after_telling, seen, history_from, history}
 use Rattle.reached.specs.Pool.{costs}
-use Rattle.reached.proofs.Members.{and_parts, or-neither, is-it, not-true}
 use Rattle.reached.proofs.Table.{Table, table_of, counted_same, stored_same, faulted-same, faulted-waiting}
 use Rattle.reached.proofs.Sound.{IsCell, Sound}
 use Rattle.reached.proofs.Walk.{ahead_in, Agrees, agrees-still, Agree}
@@ -57,8 +47,8 @@ module _ (boot : SystemConfig) where
 
   idle-keeps : (x : Ahead) (h : History) → (after_poll x Off h ≡ h) × (after_poll x Idle h ≡ h)
   unfolding after_poll after_telling answered_by
-  idle-keeps Nothing h = (refl, refl)
-  idle-keeps (Effect kind target) h = (refl, refl)
+  idle-keeps None h = (refl, refl)
+  idle-keeps (Some (kind, target)) h = (refl, refl)
 
   module _ (h : History) (m : Machine) (a : Agrees boot h m) where
     call_step : (cpu code a1 a2 : ℕ) (bytes : List ℕ) → Agree boot (λ r. after_call code a1 bytes r h) (step (Call cpu code a1 a2) bytes m)
@@ -70,7 +60,7 @@ module _ (boot : SystemConfig) where
         (λ e. by-rule P _ _ _ (λ e. word Held (words code a1 bytes h).3)
         (λ held. by-none P _
         (calls boot h (counted call_counter cpu m) (agrees-still boot h m (counted call_counter cpu m) (counted_same call_counter cpu m) refl a) cpu code a1 a2 bytes
-        (is-it (is_on m.power) on)
+        (not-false (is_on m.power) on)
         (ap (λ (n : ℕ). eqb n root_id && waits m.waiting) (ap (λ (t : Table). t.owner cpu) (counted_same call_counter cpu m)) ∙ held))))))
       where
         P : Stepped → Type 0
@@ -84,7 +74,7 @@ module _ (boot : SystemConfig) where
     poll-step bytes =
         by-rule P _ _ _ (λ e. subst (λ (g : History). Agrees boot g m) (sym (idle-keeps h.ahead h).0) a)
         (λ on. by-rule P _ _ _ (λ e. subst (λ (g : History). Agrees boot g m) (sym (idle-keeps h.ahead h).1) a)
-        (λ e. by-none P _ (poll-agrees boot h m _ a (is-it (is_on m.power) on) m.waiting refl)))
+        (λ e. by-none P _ (poll-agrees boot h m _ a (not-false (is_on m.power) on) m.waiting refl)))
       where
         P : Stepped → Type 0
         P = Agree boot (λ r. after_poll h.ahead r h)
@@ -154,7 +144,7 @@ accepted-keeps bytes e =
     (λ form. by-rule P _ _ _ (λ q r. no_answer r)
     (λ range. by-rule P _ _ _ (λ q r. no_answer r)
     (λ room. by-none P (pos 0)
-    (λ r. record { rules = (and_parts (system_form bytes) _ (is-it (system_form bytes && system_valid (system_of bytes)) form)).1; range = range; room = room })))) e
+    (λ r. record { rules = (and_parts (system_form bytes) _ (not-false (system_form bytes && system_valid (system_of bytes)) form)).1; range = range; room = room })))) e
   where
     P : ℤ → Type 0
     P z = z ≡ pos 0 → Kept (system_of bytes)
@@ -172,7 +162,7 @@ module _ (power : Power) (system : SystemConfig) (k : Kept system) where
   only-root id = has-where (λ n. eqb n 0) id
 
   no_cell_lem : (id : ℕ) → has_id 1 id ≡ true → id ≡ 0
-  no_cell_lem id e = eqb→eq id 0 (holds (and_parts (ltb id 16) (eqb id 0) (sym (only-root id) ∙ e)).1)
+  no_cell_lem id e = eqb-true id 0 (and_parts (ltb id 16) (eqb id 0) (sym (only-root id) ∙ e)).1
 
   none : (id : ℕ) → IsCell (table_of start) id → ⊥
   unfolding first_machine
@@ -197,13 +187,13 @@ module _ (power : Power) (system : SystemConfig) (k : Kept system) where
   unfolding out_of_range
   pool-small =
       let rest : (too_many system.pool.pages || too_many system.pool.used) ≡ false = fourth (not (leb 1 system.possible && leb system.possible 64)) (is_empty system.cpus) _ _ _ k.range in
-      let few : too_many system.pool.pages ≡ false = (or-neither (too_many system.pool.pages) _ rest).0 in
+      let few : too_many system.pool.pages ≡ false = (or_parts (too_many system.pool.pages) _ rest).0 in
       let bound : system.pool.pages ≤ 2 ^ 31 - 1 = ltb-false (2 ^ 31 - 1) system.pool.pages few in
       omega arith
 
   pool-fits : system.pool.used ≤ system.pool.pages
   unfolding overdrawn
-  pool-fits = ltb-false system.pool.pages system.pool.used (or-neither (ltb system.pool.pages system.pool.used) _ k.room).0
+  pool-fits = ltb-false system.pool.pages system.pool.used (or_parts (ltb system.pool.pages system.pool.used) _ k.room).0
 
   sound-start : Sound (table_of start)
   unfolding first_machine has_id
@@ -227,12 +217,12 @@ module _ (power : Power) (system : SystemConfig) (k : Kept system) where
   }
 
   start-agrees : Agrees system nothing_yet start
-  unfolding first_machine has_cell any costs ahead_in waited_for
+  unfolding first_machine has_cell costs ahead_in waited_for
   start-agrees = record {
     settled = record {
       sound = sound-start;
       follows = record {
-        lives = λ id n. not-true (λ e. n (no_cell_lem id e));
+        lives = λ id n. false_from_ne_true _ (λ e. n (no_cell_lem id e));
         no-root = refl;
         records = λ id e. absurd (true≢false (sym e));
         distinct = tt;

@@ -1,15 +1,10 @@
 -- The machine's table agrees with the history's cells, and each effect keeps that. Create's ID is the smallest that is free in both; Destroy takes
 -- one cell from both, and with it its cost; Disable is Destroy of one live cell after the other. Assumes nothing.
-use mathlib.Core.Path.{◌≡◌, refl, sym, ap, ◌∙◌, subst}
-use mathlib.Core.Bool.{Bool, true, false, not, ◌&&◌, ◌||◌}
-use mathlib.Core.List.{List, [], ◌∷◌}
-use Prim.Native.Nat.{ℕ, zero, suc, ◌+◌, ◌^◌, ◌≤◌, ◌<◌}
-use native.Mathlib.Nat.{mod-eq_of_lt}
-use native.Mathlib.Omega.{arith}
-use native.Mathlib.Decide.{ℕ_discrete}
-use lib.Dec.{eqb, eqb→eq}
+use Rattle.std.proofs.Common.{◌≡◌, refl, sym, ap, ◌∙◌, subst, Bool, true, false, not, ◌&&◌, ◌||◌, List, [], ◌∷◌, ℕ, zero, suc, ◌+◌, ◌^◌, ◌≤◌, ◌<◌, mod-eq_of_lt, arith, eqb, eq-eqb, eqb-true, ne_eqb}
+use Rattle.std.proofs.lemmas.Bool.{and_parts, both_ways, not-true}
+use Rattle.std.proofs.Math.Decide.{ℕ_discrete}
 use Rattle.base.specs.Lists.{from}
-use Rattle.base.proofs.Tests.{holds, fails, eq→eqb}
+use Rattle.base.proofs.Tests.{fails, eq→eqb}
 use Rattle.cell_record.specs.declared.CellConfig.{CellConfig}
 use Rattle.cell_record.specs.CellRecord.{cell_of}
 use Rattle.machine_state.specs.declared.Power.{Power}
@@ -22,13 +17,13 @@ use Rattle.rules.specs.Effects.{pool_cost, cell_created, cell_destroyed, all_des
 use Rattle.rules.proofs.Ids.{by-test, first-same}
 use Rattle.history.specs.History.{Created, has_cell, record_brought, cells_but, smallest_free}
 use Rattle.reached.specs.Pool.{costs}
-use Rattle.reached.proofs.Members.{and_parts, is-not, clash, chosen, passed}
+use Rattle.reached.proofs.Members.{chosen, passed}
 use Rattle.reached.proofs.Table.{Table, table_of}
 use Rattle.reached.proofs.Changes.{created, destroyed, created-table, destroyed-table}
 use Rattle.reached.proofs.Sound.{Fits, IsCell, Sound}
 use Rattle.reached.proofs.Created.{sound-created}
 use Rattle.reached.proofs.Destroyed.{sound-destroyed}
-use Rattle.reached.proofs.Cells.{Distinct, equal, unequal, has_first, record-first, record-later, has-without, record-without, distinct_without, costs-without}
+use Rattle.reached.proofs.Cells.{Distinct, has_first, record-first, record-later, has-without, record-without, distinct_without, costs-without}
 use Rattle.system_record.specs.declared.SystemConfig.{SystemConfig}
 
 -- `boot` is what the system record said
@@ -62,8 +57,8 @@ module _ (boot : SystemConfig) where
     swap a b = go (eqb a b) refl
       where
         go : (x : Bool) → eqb a b ≡ x → x ≡ eqb b a
-        go true e = sym (ap (λ (n : ℕ). eqb n a) (sym (eqb→eq a b (holds e))) ∙ equal a)
-        go false e = sym (unequal (λ q. fails e (eq→eqb a b (sym q))))
+        go true e = sym (ap (λ (n : ℕ). eqb n a) (sym (eqb-true a b e)) ∙ eq-eqb a a refl)
+        go false e = sym (ne_eqb _ _ (λ q. fails e (eq→eqb a b (sym q))))
 
     record-at : (k : ℕ) → has_cell k more ≡ true → (b : Bool) → eqb id k ≡ b → (created id (cell_of bytes) t).config k ≡ record_brought k more
     record-at k l true e = chosen _ _ (swap k id ∙ e) ∙ sym (record-first new cs k e)
@@ -78,14 +73,14 @@ module _ (boot : SystemConfig) where
       follows = record {
         lives = λ k n.
             ap (λ (b : Bool). b || t.is_live k) (swap k id) ∙ ap (λ (b : Bool). eqb id k || b) (h.follows.lives k n) ∙ sym (has_first new cs k);
-        no-root = has_first new cs 0 ∙ ap (λ (b : Bool). b || has_cell 0 cs) (unequal f.other) ∙ h.follows.no-root;
+        no-root = has_first new cs 0 ∙ ap (λ (b : Bool). b || has_cell 0 cs) (ne_eqb _ _ f.other) ∙ h.follows.no-root;
         records = λ k l. record-at k l (eqb id k) refl;
         distinct = (absent, h.follows.distinct);
         pool =
             let small : t.pool + pool_cost (cell_of bytes).region_count < 2 ^ 32 = omega (arith, f.room, h.sound.pool-small) in
             let sum : t.pool ≡ t.system.pool.used + costs cs = h.follows.pool in
             mod-eq_of_lt small ∙ omega arith;
-        off = λ e. absurd (clash on e);
+        off = λ e. absurd (both_ways _ e on);
         booted = h.follows.booted;
       };
     }
@@ -112,7 +107,7 @@ module _ (boot : SystemConfig) where
         no-root = has-without id cs 0 ∙ emptied (eqb 0 id);
         records = λ k l.
             let parts = left-cells k l in
-            let other : eqb k id ≡ false = is-not (eqb k id) parts.0 in
+            let other : eqb k id ≡ false = not-true (eqb k id) parts.0 in
             passed _ _ other ∙ h.follows.records k parts.1 ∙ sym (record-without id cs k (λ q. fails other (eq→eqb k id q)));
         distinct = distinct_without id cs h.follows.distinct;
         pool =
@@ -186,7 +181,7 @@ module _ (boot : SystemConfig) where
           parts i l = and_parts (not (eqb i k)) (live m i) (sym (live-after m k h.sound c i) ∙ g.was i l)
 
           here : (i : ℕ) → k ≤ i → i < k + suc n → live (all_destroyed (from (suc k) n) (cell_destroyed k m)) i ≡ true → Dec (i ≡ k) → ⊥
-          here i low high l (yes q) = fails (is-not (eqb i k) (parts i l).0) (eq→eqb i k q)
+          here i low high l (yes q) = fails (not-true (eqb i k) (parts i l).0) (eq→eqb i k q)
           here i low high l (no q) = g.none i (omega arith) (omega arith) l
 
       passed-by : live m k ≡ false → Gone (suc k) n m (all_destroyed (from (suc k) n) m) → Gone k (suc n) m (all_destroyed (from (suc k) n) m)
@@ -198,15 +193,15 @@ module _ (boot : SystemConfig) where
       }
         where
           here : (i : ℕ) → k ≤ i → i < k + suc n → live (all_destroyed (from (suc k) n) m) i ≡ true → Dec (i ≡ k) → ⊥
-          here i low high l (yes q) = clash (g.was i l) (ap (live m) q ∙ e)
+          here i low high l (yes q) = both_ways _ (ap (live m) q ∙ e) (g.was i l)
           here i low high l (no q) = g.none i (omega arith) (omega arith) l
 
   -- with no live cell but root the history has none
   no_cells : (cs : List Created) (t : Table) → Settled cs t → ((i : ℕ) → IsCell t i → ⊥) → cs ≡ []
   no_cells [] t h none = refl
   no_cells (c ∷ cs) t h none =
-      let here : has_cell c.id (c ∷ cs) ≡ true = has_first c cs c.id ∙ ap (λ (b : Bool). b || has_cell c.id cs) (equal c.id) in
-      let other : c.id ≡ 0 → ⊥ = λ q. clash here (ap (λ (n : ℕ). has_cell n (c ∷ cs)) q ∙ h.follows.no-root) in
+      let here : has_cell c.id (c ∷ cs) ≡ true = has_first c cs c.id ∙ ap (λ (b : Bool). b || has_cell c.id cs) (eq-eqb c.id c.id refl) in
+      let other : c.id ≡ 0 → ⊥ = λ q. both_ways _ (ap (λ (n : ℕ). has_cell n (c ∷ cs)) q ∙ h.follows.no-root) here in
       absurd (none c.id (record { other = other; lives = h.follows.lives c.id other ∙ here }))
 
   with-power : (p : Power) (m : Machine) → Sound (table_of m) → Sound (table_of (with_power p m))

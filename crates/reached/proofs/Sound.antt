@@ -1,10 +1,7 @@
 -- The invariant of the machine's table: each live cell is a valid record's, no two name one CPU or meet in a region that is not shared in both, root
 -- has the started CPUs that no cell names, every CPU says whose it is, and the pool is not overdrawn. Assumes nothing.
-use mathlib.Core.Path.{◌≡◌, refl, sym, ◌∙◌, subst}
-use mathlib.Core.Bool.{Bool, true, false, not, ◌&&◌, ◌||◌}
+use Rattle.std.proofs.Common.{◌≡◌, refl, sym, ◌∙◌, subst, Bool, true, false, not, ◌&&◌, ◌||◌, ℕ, suc, ◌+◌, ◌^◌, ◌≤◌, ◌<◌, min, max, arith}
 use mathlib.Core.List.{Memᴰ}
-use Prim.Native.Nat.{ℕ, suc, ◌+◌, ◌^◌, ◌≤◌, ◌<◌, min, max}
-use native.Mathlib.Omega.{arith}
 use Rattle.base.specs.Lists.{any}
 use Rattle.base.proofs.Tests.{is_true, holds, equal-leb, implies-elim}
 use Rattle.base.proofs.Lists.{up_to-elim}

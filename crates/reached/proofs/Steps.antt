@@ -1,25 +1,21 @@
 -- Every event keeps the agreement of machine and history: polls, calls, and the rest, each through its rows of words. Assumes nothing.
-use mathlib.Core.Path.{◌≡◌, refl, sym, ap, ap₂, ◌∙◌, subst}
-use mathlib.Core.Bool.{Bool, true, false, not, ◌&&◌, ◌||◌, true≢false, and-false}
-use mathlib.Core.List.{List, []}
-use Prim.Native.Nat.{ℕ}
-use lib.Dec.{leb, eqb, eqb→eq}
-use lib.IntN.{ℤ, pos, negsuc}
+use Rattle.std.proofs.Common.{◌≡◌, refl, sym, ap, ap₂, ◌∙◌, subst, Bool, true, false, not, ◌&&◌, ◌||◌, true≢false, List, [], ℕ, leb, eqb, ℤ, pos, negsuc, eqb-true, None, Some}
+use Rattle.std.proofs.lemmas.Bool.{both_ways, not-false, or_parts}
+use Rattle.std.proofs.Math.Bool.{and-false}
 use Rattle.base.specs.Rules.{first_rule, EPERM}
 use Rattle.base.proofs.Rules.{by-rule, by-none}
-use Rattle.base.proofs.Tests.{holds, fails, eq→eqb}
+use Rattle.base.proofs.Tests.{fails, eq→eqb}
 use Rattle.cell_record.specs.declared.CellConfig.{CellConfig}
 use Rattle.cell_record.specs.CellRecord.{cell_of}
 use Rattle.machine_state.specs.declared.CallKind.{CallKind}
 use Rattle.machine_state.specs.declared.CallKind.TheVariants.{Disable, Create, Start, SetLoadable, Destroy}
 use Rattle.machine_state.specs.declared.Stage.{Stage}
-use Rattle.machine_state.specs.declared.Waiting.{Waiting}
-use Rattle.machine_state.specs.declared.Waiting.TheVariants.{NoCall, Pending}
+use Rattle.machine_state.specs.Machine.{Waiting}
 use Rattle.machine_state.specs.declared.Answer.{Answer}
 use Rattle.machine_state.specs.declared.Answer.TheVariants.{Code, Wait, Done, Off, Bad, Stopped, Held, Denied, Idle}
 use Rattle.machine_state.specs.declared.Machine.{Machine}
 use Rattle.machine_state.specs.declared.Stepped.{Stepped}
-use Rattle.rules.specs.State.{root_id, comm_at, cpu_at, live, waits, with_waiting, answered}
+use Rattle.rules.specs.State.{root_id, comm_at, cpu_at, live, waits, with_waiting, answered, waited_for}
 use Rattle.rules.specs.Unobeyed.{is_on}
 use Rattle.rules.specs.Create.{free_id}
 use Rattle.rules.specs.Asking.{asks, finished, ask, consents, hear, with_polls, hears_at, heard_at, still_waits, poll_cell, poll}
@@ -28,9 +24,8 @@ use Rattle.rules.specs.Observer.{kind_of_code, target_of}
 use Rattle.rules.specs.Answers.{is_negative}
 use Rattle.rules.proofs.Ids.{by-test}
 use Rattle.rules.proofs.Cases.{heard-cases}
-use Rattle.history.specs.History.{Created, History, Ahead, Nothing, Effect, has_come, come, cells_after, answered_by, after_call, after_telling, after_poll}
-use Rattle.reached.specs.Kept.{waited_for}
-use Rattle.reached.proofs.Members.{or-neither, is-it, clash, chosen, passed}
+use Rattle.history.specs.History.{Created, History, Ahead, has_come, come, cells_after, answered_by, after_call, after_telling, after_poll}
+use Rattle.reached.proofs.Members.{chosen, passed}
 use Rattle.reached.proofs.Table.{Table, table_of, cut-same}
 use Rattle.reached.proofs.Sound.{Fits, IsCell}
 use Rattle.reached.proofs.Settled.{Settled, same-free}
@@ -49,12 +44,12 @@ module _ (boot : SystemConfig) where
   poll-ready Create target cell new cs m c e = absurd (true≢false (sym e))
   poll-ready Start target cell new cs m c e = tt
   poll-ready SetLoadable target cell new cs m c e = tt
-  poll-ready Destroy target cell new cs m c e = subst (IsCell (table_of m)) (eqb→eq cell target (holds e)) c
+  poll-ready Destroy target cell new cs m c e = subst (IsCell (table_of m)) (eqb-true cell target e) c
 
   module _ (h : History) (m : Machine) (s : Settled boot h.cells (table_of m)) (on : is_on m.power ≡ true) (kind : CallKind) (stage : Stage) (new : CellConfig)
       (w : Awaits (table_of m) kind stage) where
     -- nothing is heard: the machine as it was, but for the count of polls
-    unheard : (g : History) → g.cells ≡ h.cells → ahead_in (Pending kind stage) ≡ g.ahead → stage.cell ≡ g.waits_for → Agrees boot g (still_waits kind stage m)
+    unheard : (g : History) → g.cells ≡ h.cells → ahead_in (Some (kind, stage)) ≡ g.ahead → stage.cell ≡ g.waits_for → Agrees boot g (still_waits kind stage m)
     unfolding waited_for ahead_in still_waits with_polls with_waiting
     unheard g c a e = record {
       settled = subst (λ (l : List Created). Settled boot l (table_of m)) (sym c) s;
@@ -101,25 +96,25 @@ module _ (boot : SystemConfig) where
   pub poll-agrees : (h : History) (m : Machine) (new : CellConfig) → Agrees boot h m → is_on m.power ≡ true → (w : Waiting) → m.waiting ≡ w
       → Agree boot (λ a. after_poll h.ahead a h) (poll w new m)
   unfolding poll after_poll after_telling answered_by answered ahead_in
-  poll-agrees h m new a on NoCall e = subst (λ (x : Ahead). Agrees boot (after_poll x Idle h) m) a.ahead (idle (ahead_in m.waiting))
+  poll-agrees h m new a on None e = subst (λ (x : Ahead). Agrees boot (after_poll x Idle h) m) a.ahead (idle (ahead_in m.waiting))
     where
       idle : (x : Ahead) → Agrees boot (after_poll x Idle h) m
-      idle Nothing = a
-      idle (Effect kind target) = a
-  poll-agrees h m new a on (Pending kind stage) e =
+      idle None = a
+      idle (Some (kind, target)) = a
+  poll-agrees h m new a on (Some (kind, stage)) e =
       subst (λ (x : Ahead). Agree boot (λ r. after_poll x r h) (poll_cell kind stage new m)) (sym (ap ahead_in e) ∙ a.ahead) (go stage.telling refl)
     where
       w : Awaits (table_of m) kind stage
       w = subst (WaitsWell (table_of m)) e a.waits
 
-      go : (b : Bool) → stage.telling ≡ b → Agree boot (λ r. after_poll (ahead_in (Pending kind stage)) r h) (poll_cell kind stage new m)
+      go : (b : Bool) → stage.telling ≡ b → Agree boot (λ r. after_poll (ahead_in (Some (kind, stage))) r h) (poll_cell kind stage new m)
       go true t = subst (λ (x : Ahead). Agree boot (λ r. after_poll x r h) (poll_cell kind stage new m)) (sym (chosen _ _ t)) (poll-telling h m a.settled on kind stage new w t)
       go false t = subst (λ (x : Ahead). Agree boot (λ r. after_poll x r h) (poll_cell kind stage new m)) (sym (passed _ _ t)) (poll-asking h m a.settled on kind stage new w t)
 
   -- ---- calls
 
   -- the history after a call that goes on is that of its kind; a refused one leaves it as it was, with no call ahead
-  idle-history : (h : History) → h.ahead ≡ Nothing → h.waits_for ≡ 0 → ◌≡◌ {A = History} (record { cells = h.cells; ahead = Nothing; waits_for = 0 }) h
+  idle-history : (h : History) → h.ahead ≡ None → h.waits_for ≡ 0 → ◌≡◌ {A = History} (record { cells = h.cells; ahead = None; waits_for = 0 }) h
   idle-history h a w = λ i. record { cells = h.cells; ahead = sym a i; waits_for = sym w i }
 
   module _ (h : History) (code a1 : ℕ) (bytes : List ℕ) where
@@ -134,7 +129,7 @@ module _ (boot : SystemConfig) where
     unfolding after_call
     query-keeps e a = passed _ _ (ap (λ (b : Bool). b && not (is_negative a)) e)
 
-    same_kind : (kind : CallKind) → leb code 4 ≡ true → kind_of_code code ≡ kind → h.ahead ≡ Nothing → h.waits_for ≡ 0
+    same_kind : (kind : CallKind) → leb code 4 ≡ true → kind_of_code code ≡ kind → h.ahead ≡ None → h.waits_for ≡ 0
         → (a : Answer) → hist a ≡ answered_by kind (target_of kind a1) bytes a h
     unfolding after_call is_negative answered_by
     same_kind kind e k n w a = go (is_negative a) refl
@@ -189,7 +184,7 @@ module _ (boot : SystemConfig) where
     query e z = subst (λ (g : History). Agrees boot g m) (sym (query-keeps h code a1 bytes e (Code z))) a
 
     past : (n : ℕ) → leb n 4 ≡ false → eqb code n ≡ true → leb code 4 ≡ false
-    past n e q = ap (λ (x : ℕ). leb x 4) (eqb→eq code n (holds q)) ∙ e
+    past n e q = ap (λ (x : ℕ). leb x 4) (eqb-true code n q) ∙ e
 
     -- codes 5 to 7 and above
     queries : leb code 4 ≡ false → P (call_by_code cpu code a1 a2 bytes m)
@@ -205,10 +200,10 @@ module _ (boot : SystemConfig) where
         (λ q. by-rule P _ _ _ (λ q. query e _) (λ q. by-none P _ (query e _)))))))))
       where
         no_call : (n : ℕ) → leb n 4 ≡ true → eqb code n ≡ true → ⊥
-        no_call n t q = clash (ap (λ (x : ℕ). leb x 4) (eqb→eq code n (holds q)) ∙ t) e
+        no_call n t q = both_ways _ e (ap (λ (x : ℕ). leb x 4) (eqb-true code n q) ∙ t)
 
     -- codes 0 to 4, of root with no call waiting
-    module _ (on : is_on m.power ≡ true) (free : h.ahead ≡ Nothing) (none : h.waits_for ≡ 0) where
+    module _ (on : is_on m.power ≡ true) (free : h.ahead ≡ None) (none : h.waits_for ≡ 0) where
       -- a call of a kind, whose code is n
       goes_on : (n : ℕ) (kind : CallKind) → eqb code n ≡ true → leb n 4 ≡ true → kind_of_code n ≡ kind → (r : Stepped)
           → Agree boot (λ x. answered_by kind (target_of kind a1) bytes x h) r → P r
@@ -217,7 +212,7 @@ module _ (boot : SystemConfig) where
           (sym (same_kind h code a1 bytes kind (ap (λ (x : ℕ). leb x 4) code_is ∙ low) (ap kind_of_code code_is ∙ k) free none r.answer)) g
         where
           code_is : code ≡ n
-          code_is = eqb→eq code n (holds q)
+          code_is = eqb-true code n q
 
       by-disable : eqb code 0 ≡ true → P (disable_call (cell_of bytes) m)
       unfolding disable_call target_of
@@ -251,7 +246,7 @@ module _ (boot : SystemConfig) where
           (goes_on n kind q low k (ask kind a1 0 (cell_of bytes) m)
           (subst (λ (x : ℕ). Agree boot (λ r. answered_by kind x bytes r h) (ask kind a1 0 (cell_of bytes) m)) (sym t)
           (ask-agrees boot h bytes m a.settled on kind a1 0 (cell_of bytes)
-          (ready (record { other = λ e. fails z (eq→eqb a1 0 e); lives = is-it (live m a1) l }))))))))
+          (ready (record { other = λ e. fails z (eq→eqb a1 0 e); lives = not-false (live m a1) l }))))))))
 
       pub root-calls : P (call_by_code cpu code a1 a2 bytes m)
       unfolding call_by_code target_of
@@ -267,19 +262,19 @@ module _ (boot : SystemConfig) where
 
     -- a call, counted: of root with no call waiting, or of another cell
     pub calls : is_on m.power ≡ true → (eqb (cpu_at m cpu).cell root_id && waits m.waiting) ≡ false → P (call cpu code a1 a2 bytes m)
-    unfolding call waits ahead_in waited_for
+    unfolding call ahead_in waited_for
     calls on held =
         by-rule P _ _ _ (λ e. at_once _)
         (λ e. by-rule P _ _ _ (λ e. at_once _) (λ e. by-none P _ (by-caller (eqb (cpu_at m cpu).cell root_id) refl e)))
       where
-        not-waiting : (w : Waiting) → waits w ≡ false → (ahead_in w ≡ Nothing) × (waited_for w ≡ 0)
-        not-waiting NoCall e = (refl, refl)
-        not-waiting (Pending kind stage) e = absurd (true≢false e)
+        not-waiting : (w : Waiting) → waits w ≡ false → (ahead_in w ≡ None) × (waited_for w ≡ 0)
+        not-waiting None e = (refl, refl)
+        not-waiting (Some (kind, stage)) e = absurd (true≢false e)
 
         by-caller : (b : Bool) → eqb (cpu_at m cpu).cell root_id ≡ b → (not (eqb (cpu_at m cpu).cell root_id) && (leb code 4 || eqb code 6)) ≡ false
             → P (call_by_code cpu code a1 a2 bytes m)
         by-caller true q e =
-            let idle : (ahead_in m.waiting ≡ Nothing) × (waited_for m.waiting ≡ 0) =
+            let idle : (ahead_in m.waiting ≡ None) × (waited_for m.waiting ≡ 0) =
             not-waiting m.waiting (sym (ap (λ (b : Bool). b && waits m.waiting) q) ∙ held) in
             root-calls on (sym a.ahead ∙ idle.0) (sym a.waited ∙ idle.1)
-        by-caller false q e = queries (or-neither (leb code 4) (eqb code 6) (sym (ap (λ (b : Bool). not b && (leb code 4 || eqb code 6)) q) ∙ e)).0
+        by-caller false q e = queries (or_parts (leb code 4) (eqb code 6) (sym (ap (λ (b : Bool). not b && (leb code 4 || eqb code 6)) q) ∙ e)).0

@@ -1,16 +1,9 @@
 -- The machine's table: what stands in it, as functions of an ID or a CPU. Counting, storing, faults and messages leave it as it was, and so do
 -- Start and Set Loadable. Each law reads a list after `set` or `map` place by place. Assumes nothing.
-use mathlib.Core.Path.{◌≡◌, refl, sym, ap, ◌∙◌, subst}
-use mathlib.Core.Bool.{Bool, true, false, not, ◌&&◌}
-use mathlib.Core.List.{List}
-use Prim.Native.Nat.{ℕ, zero, suc, ◌≤◌, ◌<◌}
-use native.Mathlib.Omega.{arith}
-use lib.Dec.{ltb, eqb, eqb→eq}
-use lib.ListN.{length, get_or, set, length-set, get_or-map, get_or-eq_default}
-use lib.Seq.{map-set_same, get_or-set_same, get_or-set_other}
-use borrow.Author.Tests.{ltb-true, ltb-false}
-use Rattle.base.proofs.Tests.{is_false, holds, fails, eq→eqb}
-use Rattle.base.proofs.Lists.{length-up_to, get_or-up_to}
+use Rattle.std.proofs.Common.{◌≡◌, refl, sym, ap, ◌∙◌, subst, Bool, true, false, List, ℕ, zero, suc, ◌≤◌, ◌<◌, arith, ltb, eqb, length, get_or, set, length-set, get_or-set_same, get_or-set_other, ltb-true, ltb-false, eqb-true}
+use Rattle.std.proofs.Math.ListN.{get_or-eq_default}
+use Rattle.base.proofs.Tests.{is_false, fails, eq→eqb}
+use Rattle.base.proofs.Lists.{length-up_to}
 use Rattle.cpu_set.specs.CpuSet.{member}
 use Rattle.cpu_set.proofs.Laws.{member-lt}
 use Rattle.system_record.specs.declared.SystemConfig.{SystemConfig}
@@ -23,9 +16,11 @@ use Rattle.machine_state.specs.declared.Cell.{Cell}
 use Rattle.machine_state.specs.declared.Power.{Power}
 use Rattle.machine_state.specs.declared.Machine.{Machine}
 use Rattle.machine_state.specs.Machine.{cpu_in, past_cpu, past_comm, past_cell}
-use Rattle.rules.specs.State.{root_id, cell_at, comm_at, cpu_at, live, is_final, failed, with_cell, with_comm, with_cpus, with_cpu}
-use Rattle.rules.specs.Effects.{count_exit, counted, store_word, stored, fail_cpu, all_failed, cell_failed, faulted, with_state, change_in, change_cpus, cpus_changed, start_cpu, stop_cpu, with_phase, in_phase, clear_words, cell_started, cell_loadable, cell_cut_off}
+use Rattle.rules.specs.State.{cell_at, comm_at, cpu_at, live, with_cell, with_comm, with_cpus, with_cpu}
+use Rattle.rules.specs.Effects.{count_exit, counted, store_word, stored, fail_cpu, faulted, change_in, change_cpus, cpus_changed, start_cpu, stop_cpu, with_phase, in_phase, clear_words, cell_started, cell_loadable, cell_cut_off}
 use Rattle.rules.proofs.Ids.{by-test}
+use Rattle.rules.proofs.Cases.{faulted_cpu, fault-cases}
+use Rattle.rules.proofs.Places.{changed-at, read_kept}
 use Rattle.reached.specs.Kept.{kept_in, kept}
 
 pub record Table : Type 0 where
@@ -59,16 +54,11 @@ table_of m = record {
 -- ---- places of a list after `set`
 
 module _ {A : Type 0} where
-  -- a change that keeps a part keeps it at every place
-  keeps : {B : Type 0} (f : A → B) (l : List A) (i : ℕ) (y d : A) → f y ≡ f (get_or l i d) → (k : ℕ) → f (get_or (set l i y) k d) ≡ f (get_or l k d)
-  keeps f l i y d e k =
-      sym (get_or-map f (set l i y) k d) ∙ ap (λ (xs : List _). get_or xs k (f d)) (map-set_same f l i y d e) ∙ get_or-map f l k d
-
   pub place : (l : List A) (i : ℕ) (y d : A) (k : ℕ) → i < length l → get_or (set l i y) k d ≡ elim (eqb k i) [ true ↦ y | false ↦ get_or l k d ]
   place l i y d k h = go (eqb k i) refl
     where
       go : (b : Bool) → eqb k i ≡ b → get_or (set l i y) k d ≡ elim b [ true ↦ y | false ↦ get_or l k d ]
-      go true e = ap (λ (n : ℕ). get_or (set l i y) n d) (eqb→eq k i (holds e)) ∙ get_or-set_same l i y d h
+      go true e = ap (λ (n : ℕ). get_or (set l i y) n d) (eqb-true k i e) ∙ get_or-set_same l i y d h
       go false e = get_or-set_other l i k y d (λ q. fails e (eq→eqb k i q))
 
 pub by-choice : {A B : Type 0} (f : A → B) (b : Bool) (x y : A) → f (elim b [ true ↦ x | false ↦ y ]) ≡ elim b [ true ↦ f x | false ↦ f y ]
@@ -79,17 +69,8 @@ by-choice f false x y = refl
 
 pub same-cpu : (cpu : ℕ) (p : Cpu) (m : Machine) → p.cell ≡ (cpu_at m cpu).cell → table_of (with_cpu cpu p m) ≡ table_of m
 unfolding with_cpus
-same-cpu cpu p m e = λ i. record {
-  power = m.power;
-  system = m.system;
-  pool = m.pool_used;
-  is_live = live m;
-  root_has = λ k. member k m.root_cpus;
-  config = kept m;
-  mapped = λ id. (comm_at m id).mapped;
-  owner = λ k. keeps (λ (q : Cpu). q.cell) m.cpus cpu p past_cpu e k i;
-  cell_rooms = length m.cells;
-  comm_rooms = length m.comms;
+same-cpu cpu p m e = λ i. record (table_of m) {
+  owner = λ k. read_kept past_cpu (λ (q : Cpu). q.cell) m.cpus cpu k p e i;
   cpu_rooms = length-set m.cpus cpu p i;
 }
 
@@ -97,18 +78,10 @@ same-cpu cpu p m e = λ i. record {
 pub same-comm : (id : ℕ) (c : CommRegion) (m : Machine) → c.mapped ≡ (comm_at m id).mapped → ((x : Cell) → kept_in x c ≡ kept_in x (comm_at m id))
     → table_of (with_comm id c m) ≡ table_of m
 unfolding with_comm
-same-comm id c m e f = λ i. record {
-  power = m.power;
-  system = m.system;
-  pool = m.pool_used;
-  is_live = live m;
-  root_has = λ k. member k m.root_cpus;
-  config = λ k. keeps (λ (w : CommRegion). kept_in (cell_at m k) w) m.comms id c past_comm (f (cell_at m k)) k i;
-  mapped = λ k. keeps (λ (w : CommRegion). w.mapped) m.comms id c past_comm e k i;
-  owner = λ k. (cpu_at m k).cell;
-  cell_rooms = length m.cells;
+same-comm id c m e f = λ i. record (table_of m) {
+  config = λ k. read_kept past_comm (λ (w : CommRegion). kept_in (cell_at m k) w) m.comms id k c (f (cell_at m k)) i;
+  mapped = λ k. read_kept past_comm (λ (w : CommRegion). w.mapped) m.comms id k c e i;
   comm_rooms = length-set m.comms id c i;
-  cpu_rooms = length m.cpus;
 }
 
 pub counted_same : (own cpu : ℕ) (m : Machine) → table_of (counted own cpu m) ≡ table_of m
@@ -132,41 +105,23 @@ pub stored_same : (cpu word value : ℕ) (m : Machine) → table_of (stored cpu 
 unfolding stored
 stored_same cpu word value m = same-comm _ _ m (store-mapped word value _) (store_kept word value _)
 
--- a cell has failed, or nothing has changed
-by-failing : (P : Machine → Type 0) (id : ℕ) (m : Machine) → P (with_comm id (with_state failed (comm_at m id)) m) → P m → P (cell_failed id m)
-unfolding cell_failed
-by-failing P id m p q =
-    by-test P (not (eqb id root_id) && all_failed (cell_at m id).cpus m.cpus && not (is_final (comm_at m id).cell_state))
-    (with_comm id (with_state failed (comm_at m id)) m) m (λ e. p) (λ e. q)
-
-failed-same : (id : ℕ) (m : Machine) → table_of (cell_failed id m) ≡ table_of m
-failed-same id m =
-    by-failing (λ (k : Machine). table_of k ≡ table_of m) id m
-    (same-comm id _ m refl (λ x. refl)) refl
-
 pub faulted-waiting : (cpu : ℕ) (m : Machine) → (faulted cpu m).waiting ≡ m.waiting
-unfolding faulted with_cpus with_comm
-faulted-waiting cpu m =
-    by-failing (λ (k : Machine). k.waiting ≡ m.waiting) (cpu_at m cpu).cell (with_cpu cpu (fail_cpu (cpu_at m cpu)) m) refl refl
+unfolding with_cpus with_comm
+faulted-waiting cpu m = fault-cases (λ (k : Machine). k.waiting ≡ m.waiting) cpu m refl (λ f. refl)
 
 pub faulted-same : (cpu : ℕ) (m : Machine) → table_of (faulted cpu m) ≡ table_of m
-unfolding faulted fail_cpu
-faulted-same cpu m = failed-same (cpu_at m cpu).cell (with_cpu cpu (fail_cpu (cpu_at m cpu)) m) ∙ same-cpu cpu (fail_cpu (cpu_at m cpu)) m refl
+unfolding fail_cpu with_cpus
+faulted-same cpu m =
+    fault-cases (λ (k : Machine). table_of k ≡ table_of m) cpu m marked (λ f. same-comm (cpu_at m cpu).cell _ (faulted_cpu cpu m) refl (λ x. refl) ∙ marked)
+  where
+    marked : table_of (faulted_cpu cpu m) ≡ table_of m
+    marked = same-cpu cpu (fail_cpu (cpu_at m cpu)) m refl
 
 pub phase-same : (id : ℕ) (phase : Phase) (m : Machine) → table_of (in_phase id phase m) ≡ table_of m
 unfolding in_phase with_cell with_phase
-phase-same id phase m = λ i. record {
-  power = m.power;
-  system = m.system;
-  pool = m.pool_used;
-  is_live = live m;
-  root_has = λ k. member k m.root_cpus;
-  config = λ k. keeps (λ (c : Cell). kept_in c (comm_at m k)) m.cells id (with_phase phase (cell_at m id)) past_cell refl k i;
-  mapped = λ k. (comm_at m k).mapped;
-  owner = λ k. (cpu_at m k).cell;
+phase-same id phase m = λ i. record (table_of m) {
+  config = λ k. read_kept past_cell (λ (c : Cell). kept_in c (comm_at m k)) m.cells id k (with_phase phase (cell_at m id)) refl i;
   cell_rooms = length-set m.cells id (with_phase phase (cell_at m id)) i;
-  comm_rooms = length m.comms;
-  cpu_rooms = length m.cpus;
 }
 
 -- ---- the CPUs of a set, changed
@@ -179,7 +134,7 @@ cpu-changed s change cpus k l = go (ltb k 64) refl
     f n = change_in s change n (cpu_in cpus n)
 
     go : (b : Bool) → ltb k 64 ≡ b → cpu_in (change_cpus s change cpus) k ≡ change_in s change k (cpu_in cpus k)
-    go true e = get_or-up_to f 64 k past_cpu (ltb-true k 64 e)
+    go true e = changed-at s change k cpus (ltb-true k 64 e)
     go false e =
         let past : 64 ≤ k = ltb-false k 64 e in
         let out : member k s ≡ false = is_false (member k s) (λ t. absurd (omega (arith, member-lt k s t))) in
@@ -190,17 +145,8 @@ cpu-changed s change cpus k l = go (ltb k 64) refl
 -- a change that keeps a CPU's cell
 same-cpus : (s : ℕ) (change : Cpu → Cpu) (m : Machine) → length m.cpus ≡ 64 → ((p : Cpu) → (change p).cell ≡ p.cell) → table_of (cpus_changed s change m) ≡ table_of m
 unfolding cpus_changed with_cpus change_cpus change_in
-same-cpus s change m l e = λ i. record {
-  power = m.power;
-  system = m.system;
-  pool = m.pool_used;
-  is_live = live m;
-  root_has = λ k. member k m.root_cpus;
-  config = kept m;
-  mapped = λ id. (comm_at m id).mapped;
+same-cpus s change m l e = λ i. record (table_of m) {
   owner = λ k. same k i;
-  cell_rooms = length m.cells;
-  comm_rooms = length m.comms;
   cpu_rooms = (length-up_to (λ n. change_in s change n (cpu_in m.cpus n)) 64 ∙ sym l) i;
 }
   where

@@ -1,12 +1,8 @@
 -- Every event keeps the agreement of machine and history. An event that is not obeyed, a refusal and a query leave both as they were; a call that
 -- asks, has its effect and tells goes through `ask`, its polls through `hear`; in each way the answer tells the history what the machine has
 -- done. While a call waits root is held, and no other CPU's call has an effect. Assumes nothing.
-use mathlib.Core.Path.{◌≡◌, refl, sym, ap, ◌∙◌, subst}
-use mathlib.Core.Bool.{true, false, not, ◌&&◌, true≢false}
-use mathlib.Core.List.{List, ◌∷◌}
-use Prim.Native.Nat.{ℕ, ◌%◌, ◌^◌}
-use lib.Dec.{ltb, eqb}
-use lib.IntN.{ℤ, pos, negsuc}
+use Rattle.std.proofs.Common.{◌≡◌, refl, sym, ap, ◌∙◌, subst, true, false, not, ◌&&◌, true≢false, List, ◌∷◌, ℕ, ◌%◌, ◌^◌, ltb, eqb, ℤ, pos, negsuc, ne_eqb, None, Some}
+use Rattle.std.proofs.lemmas.Bool.{and_parts, not-true}
 use Rattle.base.specs.Rules.{EPERM}
 use Rattle.base.proofs.Tests.{fails, eq→eqb}
 use Rattle.cell_record.specs.declared.CellConfig.{CellConfig}
@@ -14,24 +10,21 @@ use Rattle.cell_record.specs.CellRecord.{cell_of}
 use Rattle.machine_state.specs.declared.CallKind.{CallKind}
 use Rattle.machine_state.specs.declared.CallKind.TheVariants.{Disable, Create, Start, SetLoadable, Destroy}
 use Rattle.machine_state.specs.declared.Stage.{Stage}
-use Rattle.machine_state.specs.declared.Waiting.{Waiting}
-use Rattle.machine_state.specs.declared.Waiting.TheVariants.{NoCall, Pending}
+use Rattle.machine_state.specs.Machine.{Waiting}
 use Rattle.machine_state.specs.declared.Answer.{Answer}
 use Rattle.machine_state.specs.declared.Answer.TheVariants.{Code, Wait}
 use Rattle.machine_state.specs.declared.Machine.{Machine}
 use Rattle.machine_state.specs.declared.Stepped.{Stepped}
-use Rattle.rules.specs.State.{comm_at, live, no_id, with_waiting, with_comm, answered}
+use Rattle.rules.specs.State.{comm_at, live, no_id, with_waiting, with_comm, answered, waited_for}
 use Rattle.rules.specs.Unobeyed.{is_on}
 use Rattle.rules.specs.Effects.{effect}
 use Rattle.rules.specs.Create.{other_cell_locked}
-use Rattle.rules.specs.Asking.{next_to_message, asks, tells, every_cell, is_destroy, message, asking, telling, wait_for, finished, end_code, tell, carry_out, none_to_ask, ask, shutdown_request, reconfig_completed}
+use Rattle.rules.specs.Asking.{next_to_message, asks, every_cell, is_destroy, message, asking, telling, wait_for, finished, end_code, tell, carry_out, none_to_ask, ask, shutdown_request, reconfig_completed}
 use Rattle.rules.proofs.Ids.{by-test}
-use Rattle.history.specs.History.{Created, History, Ahead, Nothing, Effect, has_come, come, cells_after, answered_by, smallest_free}
-use Rattle.reached.specs.Kept.{waited_for}
-use Rattle.reached.proofs.Members.{and_parts, is-not, chosen, passed}
+use Rattle.history.specs.History.{Created, History, Ahead, has_come, come, cells_after, answered_by, smallest_free}
+use Rattle.reached.proofs.Members.{chosen, passed}
 use Rattle.reached.proofs.Table.{Table, table_of, same-comm, started-same, loadable-same}
 use Rattle.reached.proofs.Sound.{Fits, IsCell}
-use Rattle.reached.proofs.Cells.{unequal}
 use Rattle.reached.proofs.Settled.{Settled, after-create, after-destroy, after_disable, live-after}
 use Rattle.reached.proofs.Ready.{Messaged, next-is}
 use Rattle.system_record.specs.declared.SystemConfig.{SystemConfig}
@@ -40,8 +33,8 @@ use Rattle.system_record.specs.declared.SystemConfig.{SystemConfig}
 
 -- the call whose effect is still to come, from the waiting call
 unfoldable pub ahead_in : Waiting → Ahead
-ahead_in NoCall = Nothing
-ahead_in (Pending kind stage) = elim stage.telling [ true ↦ Nothing | false ↦ Effect kind stage.target ]
+ahead_in None = None
+ahead_in (Some (kind, stage)) = elim stage.telling [ true ↦ None | false ↦ Some (kind, stage.target) ]
 
 -- a waiting call waits for a cell that may be messaged; while it asks, for one that it asks
 pub record Awaits (t : Table) (kind : CallKind) (stage : Stage) : Type 0 where
@@ -49,8 +42,8 @@ pub record Awaits (t : Table) (kind : CallKind) (stage : Stage) : Type 0 where
   pub asked : stage.telling ≡ false → asks kind stage.target stage.cell ≡ true
 
 abbrev pub WaitsWell : Table → Waiting → Type 0
-WaitsWell t NoCall = Unit {0}
-WaitsWell t (Pending kind stage) = Awaits t kind stage
+WaitsWell t None = Unit {0}
+WaitsWell t (Some (kind, stage)) = Awaits t kind stage
 
 -- a call that asks a cell has not had its effect
 pub not-come : (kind : CallKind) (target c : ℕ) → asks kind target c ≡ true → has_come kind target c ≡ false
@@ -82,7 +75,7 @@ module _ (boot : SystemConfig) where
 
   -- a call waits for a cell, or has ended
   waiting-agrees : (cs : List Created) (kind : CallKind) (stage : Stage) (code : ℕ) (m : Machine) → Settled boot cs (table_of m) → Awaits (table_of m) kind stage
-      → Agrees (settled_as cs (ahead_in (Pending kind stage)) stage.cell) (wait_for kind stage code m).machine
+      → Agrees (settled_as cs (ahead_in (Some (kind, stage))) stage.cell) (wait_for kind stage code m).machine
   unfolding wait_for with_waiting with_comm message waited_for answered
   waiting-agrees cs kind stage code m s w =
       let e : table_of (with_comm stage.cell (message code (comm_at m stage.cell)) m) ≡ table_of m = same-comm stage.cell _ m refl (λ x. refl) in
@@ -93,7 +86,7 @@ module _ (boot : SystemConfig) where
         waited = refl;
       }
 
-  ended-agrees : (cs : List Created) (code : ℤ) (m : Machine) → Settled boot cs (table_of m) → Agrees (settled_as cs Nothing 0) (finished code m).machine
+  ended-agrees : (cs : List Created) (code : ℤ) (m : Machine) → Settled boot cs (table_of m) → Agrees (settled_as cs None 0) (finished code m).machine
   unfolding finished with_waiting ahead_in waited_for answered
   ended-agrees cs code m s = record { settled = s; waits = tt; ahead = refl; waited = refl }
 
@@ -111,14 +104,14 @@ module _ (boot : SystemConfig) where
     end-code SetLoadable target m f = f 0
     end-code Destroy target m f = f 0
 
-    pub ends-well : (cs : List Created) (m : Machine) → Settled boot cs (table_of m) → ((n : ℕ) → hist (Code (pos n)) ≡ settled_as cs Nothing 0)
+    pub ends-well : (cs : List Created) (m : Machine) → Settled boot cs (table_of m) → ((n : ℕ) → hist (Code (pos n)) ≡ settled_as cs None 0)
         → (n : ℕ) → Agree (finished (pos n) m)
     unfolding finished answered
     ends-well cs m s e n = subst (λ (h : History). Agrees h (finished (pos n) m).machine) (sym (e n)) (ended-agrees cs (pos n) m s)
 
     pub tell-agrees : (cs : List Created) (kind : CallKind) (target after : ℕ) (m : Machine) → Settled boot cs (table_of m)
-        → ((c : ℕ) → IsCell (table_of m) c → hist (Wait c) ≡ settled_as cs Nothing c)
-        → ((n : ℕ) → hist (Code (pos n)) ≡ settled_as cs Nothing 0)
+        → ((c : ℕ) → IsCell (table_of m) c → hist (Wait c) ≡ settled_as cs None c)
+        → ((n : ℕ) → hist (Code (pos n)) ≡ settled_as cs None 0)
         → Agree (tell kind target after m)
     unfolding tell wait_for answered ahead_in
     tell-agrees cs kind target after m s w e =
@@ -166,18 +159,18 @@ module _ (boot : SystemConfig) where
     unfolding effect
     another target c new r l q =
         let gone : (not (eqb c target) && live m c) ≡ true = sym (live-after boot m target s.sound r c) ∙ l.lives in
-        fails (is-not (eqb c target) (and_parts (not (eqb c target)) (live m c) gone).0) (eq→eqb c target q)
+        fails (not-true (eqb c target) (and_parts (not (eqb c target)) (live m c) gone).0) (eq→eqb c target q)
 
     carry-agrees : (kind : CallKind) (target : ℕ) (new : CellConfig) → Ready kind target new bytes h.cells m
         → Agree (hist kind target) (carry_out kind target new m)
-    unfolding carry_out tells answered_by come has_come
+    unfolding carry_out answered_by come has_come
     carry-agrees Disable target new r = ends-well (hist Disable target) _ _ (effect-settled Disable target new bytes h.cells m s on r) (λ n. refl) 0
     carry-agrees Create target new r =
         tell-agrees (hist Create target) _ Create target 0 _ (effect-settled Create target new bytes h.cells m s on r) (λ c l. refl) (λ n. refl)
     carry-agrees Start target new r = ends-well (hist Start target) _ _ (effect-settled Start target new bytes h.cells m s on r) (λ n. refl) 0
     carry-agrees SetLoadable target new r = ends-well (hist SetLoadable target) _ _ (effect-settled SetLoadable target new bytes h.cells m s on r) (λ n. refl) 0
     carry-agrees Destroy target new r =
-        tell-agrees (hist Destroy target) _ Destroy target 0 _ (effect-settled Destroy target new bytes h.cells m s on r) (λ c l. chosen (come Destroy target bytes c h) _ (ap not (unequal (another target c new r l)))) (λ n. refl)
+        tell-agrees (hist Destroy target) _ Destroy target 0 _ (effect-settled Destroy target new bytes h.cells m s on r) (λ c l. chosen (come Destroy target bytes c h) _ (ap not (ne_eqb _ _ (another target c new r l)))) (λ n. refl)
 
     pub refused-agrees : (kind : CallKind) (target n : ℕ) → Agree (hist kind target) (finished (negsuc n) m)
     unfolding answered_by finished answered

@@ -1,12 +1,10 @@
--- What the machine keeps of a cell's record, and the cell that a call waits for.
+-- What the machine keeps of a cell's record.
 use Rattle.std.specs.Prelude.{ℕ}
 use Rattle.cell_record.specs.declared.CellConfig.{CellConfig}
 use Rattle.machine_state.specs.declared.CommRegion.{CommRegion}
 use Rattle.machine_state.specs.declared.Cell.{Cell}
-use Rattle.machine_state.specs.declared.Waiting.{Waiting}
-use Rattle.machine_state.specs.declared.Waiting.TheVariants.{NoCall, Pending}
 use Rattle.machine_state.specs.declared.Machine.{Machine}
-use Rattle.rules.specs.State.{root_id, cell_at, comm_at}
+use Rattle.rules.specs.State.{cell_at, comm_at}
 
 -- name, passive mark, reply limit, CPUs and regions, from the cell's two places in the machine
 abbrev pub kept_in : Cell → CommRegion → CellConfig
@@ -21,8 +19,3 @@ kept_in c words = record {
 
 abbrev pub kept : Machine → ℕ → CellConfig
 kept m id = kept_in (cell_at m id) (comm_at m id)
-
--- root where no call waits
-unfoldable pub waited_for : Waiting → ℕ
-waited_for NoCall = root_id
-waited_for (Pending kind stage) = stage.cell

@@ -6,11 +6,11 @@ use Rattle.regions.specs.Regions.{comm}
 use Rattle.system_record.specs.declared.SystemConfig.{SystemConfig}
 use Rattle.cell_record.specs.CellRecord.{cell_regions}
 use Rattle.machine_state.specs.declared.Machine.{Machine}
-use Rattle.rules.specs.State.{root_id, comm_at, live, waits}
+use Rattle.rules.specs.State.{root_id, comm_at, live, waits, waited_for}
 use Rattle.rules.specs.Run.{Manager}
 use Rattle.history.specs.History.{History, has_cell, record_brought}
 use Rattle.reached.specs.Always.{Always}
-use Rattle.reached.specs.Kept.{kept, waited_for}
+use Rattle.reached.specs.Kept.{kept}
 
 pub record LiveCells (boot : SystemConfig) (h : History) (m : Machine) : Type 0 where
   -- "live (created, not destroyed)"; root always is

@@ -1,14 +1,9 @@
 -- Pages of live cells, from the invariant of the machine's table. Two cells that have a page, comm aside, have it in regions that are both shared; a
 -- cell has it in one region; no region of a cell or of root meets hypervisor memory. Assumes nothing.
-use mathlib.Core.Path.{◌≡◌, refl, sym}
-use mathlib.Core.Bool.{Bool, true, false, not, ◌&&◌, ◌||◌, true≢false}
-use mathlib.Core.Logic.{◌⊎◌, inl, inr}
-use mathlib.Core.List.{List, Memᴰ}
-use Prim.Native.Nat.{ℕ, ◌/◌, ◌%◌, ◌<◌}
-use native.Mathlib.Omega.{arith}
-use lib.Dec.{ltb, eqb, eqb→eq, leb→le}
+use Rattle.std.proofs.Common.{◌≡◌, refl, sym, Bool, true, false, not, ◌&&◌, ◌||◌, true≢false, ◌⊎◌, inl, inr, List, ℕ, ◌/◌, ◌%◌, ◌<◌, arith, ltb, eqb, eqb-true, leb-true}
+use Rattle.std.proofs.lemmas.Bool.{and_parts, both_ways, false_from_ne_true, not-true, or_cases}
+use mathlib.Core.List.{Memᴰ}
 use Rattle.base.specs.Lists.{all, any, pairwise}
-use Rattle.base.proofs.Tests.{holds}
 use Rattle.cpu_set.specs.CpuSet.{is_empty}
 use Rattle.fields.specs.Fields.{is_name}
 use Rattle.regions.specs.declared.MemRegion.{MemRegion}
@@ -21,7 +16,7 @@ use Rattle.machine_state.specs.declared.Machine.{Machine}
 use Rattle.rules.specs.State.{regions_at}
 use Rattle.rules.specs.Create.{conflict}
 use Rattle.rules.specs.Pages.{has_page, has_phys, hypervisor_has}
-use Rattle.reached.proofs.Members.{and_parts, or-either, is-not, not-true, clash, all_of, pair_of}
+use Rattle.reached.proofs.Members.{all_of, pair_of}
 use Rattle.reached.proofs.Table.{table_of}
 use Rattle.reached.proofs.Sound.{IsCell, Sound}
 use Rattle.reached_pages.proofs.Regions.{Good, both-overlap, apart_parts}
@@ -57,13 +52,13 @@ pub not-shared : (system : SystemConfig) (r : MemRegion) → Rules system r → 
 not-shared system r k e = go (loadable r) (shared r) k.flags e
   where
     go : (a b : Bool) → not (a && b) ≡ true → a ≡ true → b ≡ false
-    go true b n e = is-not b n
+    go true b n e = not-true b n
     go false b n e = absurd (true≢false (sym e))
 
 -- "A comm region has flags exactly 11": it is not loadable
 pub not-comm : (system : SystemConfig) (r : MemRegion) → Rules system r → loadable r ≡ true → comm r ≡ false
 unfolding comm_ok
-not-comm system r k e = not-true (λ c. eleven (only (comm r) _ c k.comm-flags))
+not-comm system r k e = false_from_ne_true _ (λ c. eleven (only (comm r) _ c k.comm-flags))
   where
     only : (a b : Bool) → a ≡ true → (not a || b) ≡ true → b ≡ true
     only true b t n = n
@@ -72,18 +67,18 @@ not-comm system r k e = not-true (λ c. eleven (only (comm r) _ c k.comm-flags))
     eleven : (eqb r.flags 11 && eqb r.phys 0 && eqb r.size 4096) ≡ true → ⊥
     eleven q =
         let f : ((eqb r.flags 11 && eqb r.phys 0) ≡ true) × (eqb r.size 4096 ≡ true) = and_parts (eqb r.flags 11 && eqb r.phys 0) _ q in
-        let x : r.flags ≡ 11 = eqb→eq r.flags 11 (holds (and_parts (eqb r.flags 11) (eqb r.phys 0) f.0).0) in
-        let y : r.flags / 16 % 2 ≡ 1 = eqb→eq (r.flags / 16 % 2) 1 (holds e) in
+        let x : r.flags ≡ 11 = eqb-true r.flags 11 (and_parts (eqb r.flags 11) (eqb r.phys 0) f.0).0 in
+        let y : r.flags / 16 % 2 ≡ 1 = eqb-true (r.flags / 16 % 2) 1 e in
         omega arith
 
 -- a page of hypervisor memory is in no region that is clear of it
 clear-page : (start size : ℕ) (r : MemRegion) (p : PhysPage) → clear_of start size r ≡ true → comm r ≡ false → has_phys p r ≡ true → has_page start size p.0 ≡ true → ⊥
 unfolding clear_of has_phys
-clear-page start size r p e c h y = go (or-either (comm r) (not (overlap r.phys r.size start size)) e)
+clear-page start size r p e c h y = go (or_cases (comm r) (not (overlap r.phys r.size start size)) e)
   where
     go : (comm r ≡ true) ⊎ (not (overlap r.phys r.size start size) ≡ true) → ⊥
-    go (inl x) = clash x c
-    go (inr x) = clash (both-overlap _ _ _ _ p.0 h y) (is-not _ x)
+    go (inl x) = both_ways _ c x
+    go (inr x) = both_ways _ (not-true _ x) (both-overlap _ _ _ _ p.0 h y)
 
 -- ---- a region that has a page, comm aside
 pub record Has (p : PhysPage) (rs : List MemRegion) (r : MemRegion) : Type 0 where
@@ -132,7 +127,7 @@ module _ (m : Machine) (s : Sound (table_of m)) where
 
   pub not-hypervisor : (id : ℕ) → IsCell (table_of m) id → (p : PhysPage) (r : MemRegion) → Has p (regions_at m id) r → hypervisor_has p m ≡ false
   unfolding hypervisor_has
-  not-hypervisor id c p r x = not-true (λ y. clear-page _ _ r p (region-rules id c r x.is_in).clear x.plain x.has y)
+  not-hypervisor id c p r x = false_from_ne_true _ (λ y. clear-page _ _ r p (region-rules id c r x.is_in).clear x.plain x.has y)
 
   pub one-region : (id : ℕ) → IsCell (table_of m) id → (p : PhysPage) (r t : MemRegion) → Has p (regions_at m id) r → Has p (regions_at m id) t → r ≡ t
   one-region id c p r t x y = same-region p (regions_at m id) (parts id c).1 r t x y
@@ -178,10 +173,10 @@ module _ (m : Machine) (s : Sound (table_of m)) where
       all_of (boot_region_ok start size) (boot_regions m.system) boot-parts.0 r i in
       let three : ((placed r && flags_ok r && ltb r.flags 8) ≡ true) × (clear_of start size r ≡ true) = and_parts (placed r && flags_ok r && ltb r.flags 8) _ all-of-it in
       let two : ((placed r && flags_ok r) ≡ true) × (ltb r.flags 8 ≡ true) = and_parts (placed r && flags_ok r) _ three.0 in
-      let few : r.flags < 8 = leb→le _ _ (holds two.1) in
+      let few : r.flags < 8 = leb-true _ _ two.1 in
       record {
         pages = (and_parts (placed r) (flags_ok r) two.0).0;
-        plain = not-true {a = comm r} (λ q. let y : r.flags / 8 % 2 ≡ 1 = eqb→eq (r.flags / 8 % 2) 1 (holds q) in omega arith);
+        plain = false_from_ne_true (comm r) (λ q. let y : r.flags / 8 % 2 ≡ 1 = eqb-true (r.flags / 8 % 2) 1 q in omega arith);
         clear = three.1;
       }
 
@@ -193,4 +188,4 @@ module _ (m : Machine) (s : Sound (table_of m)) where
 
   pub boot-clear : (r : MemRegion) (p : PhysPage) → Memᴰ r (boot_regions m.system) → has_phys p r ≡ true → hypervisor_has p m ≡ false
   unfolding hypervisor_has
-  boot-clear r p i h = not-true (λ y. clear-page _ _ r p (boot-rules r i).clear (boot-rules r i).plain h y)
+  boot-clear r p i h = false_from_ne_true _ (λ y. clear-page _ _ r p (boot-rules r i).clear (boot-rules r i).plain h y)

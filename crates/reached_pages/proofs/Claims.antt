@@ -1,14 +1,11 @@
 -- What a cell may touch is what its mappings give, and none of it is hypervisor memory; with Touch, the claim for every state reached. A cell's
 -- mapping is that of its regions, root's that of the boot regions where it may touch the page. Assumes nothing.
-use mathlib.Core.Path.{◌≡◌, refl, sym, ap, ◌∙◌, subst}
-use mathlib.Core.Bool.{Bool, true, false, not, ◌&&◌, true≢false}
-use Prim.Native.Nat.{ℕ}
-use native.Mathlib.Omega.{arith}
-use native.Mathlib.Decide.{ℕ_discrete}
-use lib.Dec.{eqb→eq}
+use Rattle.std.proofs.Common.{◌≡◌, refl, sym, ap, ◌∙◌, subst, Bool, true, false, not, ◌&&◌, true≢false, ℕ, arith, eqb-true}
+use Rattle.std.proofs.lemmas.Bool.{and_from, and_parts, both_ways, false_from_ne_true, not-false, not-true}
+use Rattle.std.proofs.Math.Decide.{ℕ_discrete}
 use Rattle.base.specs.Lists.{any}
 use Rattle.base.proofs.Rules.{by-rule, by-none}
-use Rattle.base.proofs.Tests.{holds, fails, eq→eqb}
+use Rattle.base.proofs.Tests.{fails, eq→eqb}
 use Rattle.system_record.specs.declared.SystemConfig.{SystemConfig}
 use Rattle.system_record.specs.SystemRecord.{boot_regions}
 use Rattle.machine_state.specs.declared.PhysPage.{PhysPage}
@@ -20,7 +17,7 @@ use Rattle.rules.specs.State.{regions_at, live}
 use Rattle.rules.specs.Pages.{has_page, has_phys, has_booted, hypervisor_has, boot_has, root_may_touch, cell_may_touch, may_touch, cell_mapping, if_touchable, root_mapping, mapping_of}
 use Rattle.rules.specs.Step.{step}
 use Rattle.history.specs.History.{History}
-use Rattle.reached.proofs.Members.{and_parts, and_both, is-not, is-it, not-true, clash, chosen, any_of, some_of, Passes}
+use Rattle.reached.proofs.Members.{chosen, any_of, some_of, Passes}
 use Rattle.reached.proofs.Table.{table_of}
 use Rattle.reached.proofs.Sound.{Sound}
 use Rattle.reached.proofs.Walk.{Agrees}
@@ -42,7 +39,7 @@ module _ (m : Machine) (s : Sound (table_of m)) where
   unfolding boot_has
   boot-has p e =
       let f : Passes (has_phys p) (boot_regions m.system) = some_of (has_phys p) (boot_regions m.system) e in
-      any_of (has_it p) (boot_regions m.system) f.element f.is_in (and_both f.passes (ap not (boot-plain m s f.element f.is_in)))
+      any_of (has_it p) (boot_regions m.system) f.element f.is_in (and_from _ _ f.passes (ap not (boot-plain m s f.element f.is_in)))
 
   root-parts : (p : PhysPage) → root_may_touch p m ≡ true → (has_booted m.power ≡ true) × (boot_has p m ≡ true)
   unfolding root_may_touch
@@ -56,7 +53,7 @@ module _ (m : Machine) (s : Sound (table_of m)) where
         page = f.page;
         access = f.access;
         maps =
-            by-rule (λ x. x ≡ Page p f.access) _ _ _ (λ q. absurd (clash (root-parts p e).0 (is-not (has_booted m.power) q)))
+            by-rule (λ x. x ≡ Page p f.access) _ _ _ (λ q. absurd (both_ways _ (not-true (has_booted m.power) q) (root-parts p e).0))
             (λ q. by-rule (λ x. x ≡ Page p f.access) _ _ _
             (λ q. ap (if_touchable m) f.maps ∙ chosen (Page p f.access) Unmapped e)
             (λ q. absurd (true≢false q)));
@@ -84,9 +81,9 @@ module _ (m : Machine) (s : Sound (table_of m)) where
         page = f.page;
         access = f.access;
         maps =
-            by-rule (λ x. x ≡ Page p f.access) _ _ _ (λ q. absurd (clash one.0 (is-not (has_booted m.power) q)))
-            (λ q. by-rule (λ x. x ≡ Page p f.access) _ _ _ (λ q. absurd (n (eqb→eq id 0 (holds q))))
-            (λ q. by-rule (λ x. x ≡ Page p f.access) _ _ _ (λ q. f.maps) (λ q. absurd (clash one.1 q))));
+            by-rule (λ x. x ≡ Page p f.access) _ _ _ (λ q. absurd (both_ways _ (not-true (has_booted m.power) q) one.0))
+            (λ q. by-rule (λ x. x ≡ Page p f.access) _ _ _ (λ q. absurd (n (eqb-true id 0 q)))
+            (λ q. by-rule (λ x. x ≡ Page p f.access) _ _ _ (λ q. f.maps) (λ q. absurd (both_ways _ q one.1))));
       }
 
   touches : (id : ℕ) (p : PhysPage) → may_touch id p m ≡ true → MapsTo m id p
@@ -100,7 +97,7 @@ module _ (m : Machine) (s : Sound (table_of m)) where
   unfolding mapping_of root_mapping cell_may_touch
   mapped id p w =
       by-rule P _ _ _ (λ q e. absurd (no-page p w.access e))
-      (λ b. by-rule P _ _ _ (λ q e. is-root m s id p (eqb→eq id 0 (holds q)) ∙ touchable _ p w.access e)
+      (λ b. by-rule P _ _ _ (λ q e. is-root m s id p (eqb-true id 0 q) ∙ touchable _ p w.access e)
       (λ n. by-rule P _ _ _ (λ l e. cell (λ q. fails n (eq→eqb id 0 q)) (booted b) l e)
       (λ l. by-none P Unmapped (λ e. absurd (no-page p w.access e))))) w.maps
     where
@@ -108,18 +105,18 @@ module _ (m : Machine) (s : Sound (table_of m)) where
       P x = x ≡ Page p w.access → may_touch id p m ≡ true
 
       booted : not (has_booted m.power) ≡ false → has_booted m.power ≡ true
-      booted = is-it (has_booted m.power)
+      booted = not-false (has_booted m.power)
 
       cell : (id ≡ 0 → ⊥) → has_booted m.power ≡ true → live m id ≡ true → cell_mapping (regions_at m id) w.page ≡ Page p w.access → may_touch id p m ≡ true
       cell n b l e =
           not_root m s id p n
-          ∙ and_both (and_both b l) (mapped-it (regions_at m id) (good-cell m s id (record { other = n; lives = l })) p w.page w.access e)
+          ∙ and_from _ _ (and_from _ _ b l) (mapped-it (regions_at m id) (good-cell m s id (record { other = n; lives = l })) p w.page w.access e)
 
   -- ---- hypervisor memory
 
   none_touch : (id : ℕ) (p : PhysPage) → hypervisor_has p m ≡ true → may_touch id p m ≡ false
   unfolding boot_has
-  none_touch id p y = not-true (λ e. go e (ℕ_discrete id 0))
+  none_touch id p y = false_from_ne_true _ (λ e. go e (ℕ_discrete id 0))
     where
       of-boot : boot_has p m ≡ true → hypervisor_has p m ≡ false
       of-boot e =
@@ -127,8 +124,8 @@ module _ (m : Machine) (s : Sound (table_of m)) where
           boot-clear m s f.element p f.is_in f.passes
 
       go : may_touch id p m ≡ true → Dec (id ≡ 0) → ⊥
-      go e (yes q) = clash y (of-boot (root-parts p (sym (is-root m s id p q) ∙ e)).1)
-      go e (no q) = let t : Touches m s id p = of-cell m s id p q (sym (not_root m s id p q) ∙ e) in clash y (not-hypervisor m s id t.cell p t.region t.has)
+      go e (yes q) = both_ways _ (of-boot (root-parts p (sym (is-root m s id p q) ∙ e)).1) y
+      go e (no q) = let t : Touches m s id p = of-cell m s id p q (sym (not_root m s id p q) ∙ e) in both_ways _ (not-hypervisor m s id t.cell p t.region t.has) y
 
 -- ---- in every state reached
 

@@ -1,15 +1,11 @@
 -- Pages of regions. Two ranges that have a page overlap; where a region is whole pages on both sides, each of its physical pages has one cell page
 -- and the other way round; where the regions of a list are apart, the one that has a cell page is the one that is found. So the mapping of a
 -- list gives exactly the pages of its regions, comm aside. Assumes nothing.
-use mathlib.Core.Path.{◌≡◌, refl, sym, ap, ◌∙◌, subst}
-use mathlib.Core.Bool.{Bool, true, false, not, ◌&&◌, ◌||◌}
-use mathlib.Core.Logic.{◌⊎◌, inl, inr}
-use mathlib.Core.List.{List, [], ◌∷◌, Memᴰ}
-use Prim.Native.Nat.{ℕ, ◌+◌, ◌-◌, ◌*◌, ◌/◌, ◌%◌, ◌^◌, ◌≤◌, ◌<◌, min, max}
-use native.Mathlib.Omega.{arith}
-use lib.Dec.{leb, ltb, eqb→eq, leb→le, le→leb}
+use Rattle.std.proofs.Common.{◌≡◌, refl, sym, ap, ◌∙◌, subst, Bool, true, false, not, ◌&&◌, ◌||◌, ◌⊎◌, inl, inr, List, [], ◌∷◌, ℕ, ◌+◌, ◌-◌, ◌*◌, ◌/◌, ◌%◌, ◌^◌, ◌≤◌, ◌<◌, min, max, arith, leb, ltb, le→leb, eqb-true, leb-true}
+use Rattle.std.proofs.lemmas.Bool.{and_from, and_parts, both_ways, not-true}
+use mathlib.Core.List.{Memᴰ}
 use Rattle.base.specs.Lists.{all, any, pairwise}
-use Rattle.base.proofs.Tests.{holds, is_true}
+use Rattle.base.proofs.Tests.{is_true}
 use Rattle.regions.specs.declared.MemRegion.{MemRegion}
 use Rattle.regions.specs.Regions.{aligned, whole_pages, placed, comm, overlap, overlap_virt, overlap_phys, apart, no_region}
 use Rattle.machine_state.specs.declared.PhysPage.{PhysPage}
@@ -17,7 +13,7 @@ use Rattle.machine_state.specs.declared.CellPage.{CellPage}
 use Rattle.machine_state.specs.declared.Access.{Access}
 use Rattle.machine_state.specs.declared.Mapping.TheVariants.{Page, Comm, Unmapped}
 use Rattle.rules.specs.Pages.{has_page, has_phys, has_virt, region_for, phys_of, access_of, mapped_by, cell_mapping}
-use Rattle.reached.proofs.Members.{and_parts, and_both, is-not, clash, chosen, passed, all_of, any_of, some_of, Passes}
+use Rattle.reached.proofs.Members.{chosen, passed, all_of, any_of, some_of, Passes}
 
 -- ---- ranges of whole pages
 
@@ -31,13 +27,12 @@ unfolding has_page
 page-in start size n e =
     let parts : ((ltb n (2 ^ 36) && leb start (4096 * n)) ≡ true) × (ltb (4096 * n) (start + size) ≡ true) = and_parts (ltb n (2 ^ 36) && leb start (4096 * n)) _ e in
     let more : (ltb n (2 ^ 36) ≡ true) × (leb start (4096 * n) ≡ true) = and_parts (ltb n (2 ^ 36)) _ parts.0 in
-    record { small = leb→le _ _ (holds more.0); low = leb→le _ _ (holds more.1); high = leb→le _ _ (holds parts.1) }
+    record { small = leb-true _ _ more.0; low = leb-true _ _ more.1; high = leb-true _ _ parts.1 }
 
 pub in-page : (start size n : ℕ) → In start size n → has_page start size n ≡ true
 unfolding has_page
 in-page start size n h =
-    and_both (and_both (is_true (ltb n (2 ^ 36)) (le→leb _ _ h.small)) (is_true (leb start (4096 * n)) (le→leb _ _ h.low)))
-    (is_true (ltb (4096 * n) (start + size)) (le→leb _ _ h.high))
+    and_from _ _ (and_from _ _ (is_true (ltb n (2 ^ 36)) (le→leb _ _ h.small)) (is_true (leb start (4096 * n)) (le→leb _ _ h.low))) (is_true (ltb (4096 * n) (start + size)) (le→leb _ _ h.high))
 
 -- two ranges that have a page overlap
 pub both-overlap : (a n b m k : ℕ) → has_page a n k ≡ true → has_page b m k ≡ true → overlap a n b m ≡ true
@@ -59,7 +54,7 @@ whole start size e =
     let p : ((aligned start && aligned size && leb 4096 size) ≡ true) × (leb (start + size) (2 ^ 48) ≡ true) = and_parts (aligned start && aligned size && leb 4096 size) _ e in
     let q : ((aligned start && aligned size) ≡ true) × (leb 4096 size ≡ true) = and_parts (aligned start && aligned size) _ p.0 in
     let r : (aligned start ≡ true) × (aligned size ≡ true) = and_parts (aligned start) _ q.0 in
-    record { at = eqb→eq _ _ (holds r.0); long = eqb→eq _ _ (holds r.1); ends = leb→le _ _ (holds p.1) }
+    record { at = eqb-true _ _ r.0; long = eqb-true _ _ r.1; ends = leb-true _ _ p.1 }
 
 -- the page at the same place of another range of the same size
 moved : (a b size n : ℕ) → Whole a size → Whole b size → In a size n → In b size (b / 4096 + (n - a / 4096))
@@ -119,11 +114,11 @@ apart_parts r s e =
     let p : ((not (overlap_virt r s) && (comm r || comm s || not (overlap_phys r s))) ≡ true) × (not (comm r && comm s) ≡ true) =
     and_parts (not (overlap_virt r s) && (comm r || comm s || not (overlap_phys r s))) _ e in
     let q : (not (overlap_virt r s) ≡ true) × ((comm r || comm s || not (overlap_phys r s)) ≡ true) = and_parts (not (overlap_virt r s)) _ p.0 in
-    (is-not (overlap_virt r s) q.0, q.1)
+    (not-true (overlap_virt r s) q.0, q.1)
 
 not-both : (r s : MemRegion) (q : CellPage) → apart r s ≡ true → has_virt q r ≡ true → has_virt q s ≡ true → ⊥
 unfolding has_virt overlap_virt
-not-both r s q e f g = clash (both-overlap _ _ _ _ q.0 f g) (apart_parts r s e).0
+not-both r s q e f g = both_ways _ (apart_parts r s e).0 (both-overlap _ _ _ _ q.0 f g)
 
 -- the region that is found is the one that has the page
 found_it : (q : CellPage) (rs : List MemRegion) → pairwise apart rs ≡ true → (r : MemRegion) → Memᴰ r rs → has_virt q r ≡ true → region_for q rs ≡ r
@@ -136,7 +131,7 @@ found_it q (s ∷ ss) e r i h = go (has_virt q s) refl (and_parts (all (apart s)
         → elim (has_virt q s) [ true ↦ s | false ↦ region_for q ss ] ≡ r
     go true t (x, y) (inl z) more = chosen _ _ t ∙ sym z
     go true t (x, y) (inr j) more = absurd (not-both s r q (all_of (apart s) ss x r j) t h)
-    go false t (x, y) (inl z) more = absurd (clash (sym (ap (has_virt q) z) ∙ h) t)
+    go false t (x, y) (inl z) more = absurd (both_ways _ t (sym (ap (has_virt q) z) ∙ h))
     go false t (x, y) (inr j) more = passed _ _ t ∙ more y r j h
 
 found_in : (q : CellPage) (rs : List MemRegion) → has_virt q (region_for q rs) ≡ true → Memᴰ (region_for q rs) rs
@@ -173,7 +168,7 @@ maps-it rs g p e =
       access = access_of r;
       maps =
           ap (λ (s : MemRegion). mapped_by s (virt_of r p)) (found_it (virt_of r p) rs g.apart-each r f.is_in here)
-          ∙ chosen _ _ here ∙ passed _ _ (is-not (comm r) parts.1) ∙ ap (λ (x : PhysPage). Page x (access_of r)) (phys-of-virt r p ok parts.0);
+          ∙ chosen _ _ here ∙ passed _ _ (not-true (comm r) parts.1) ∙ ap (λ (x : PhysPage). Page x (access_of r)) (phys-of-virt r p ok parts.0);
     }
 
 pub mapped-it : (rs : List MemRegion) → Good rs → (p : PhysPage) (q : CellPage) (access : Access) → cell_mapping rs q ≡ Page p access → any (has_it p) rs ≡ true
@@ -190,5 +185,5 @@ mapped-it rs g p q access e = go (has_virt q r) refl (comm r) refl e
         let same : phys_of r q ≡ p = cc in
         let is_in : Memᴰ r rs = found_in q rs h in
         any_of (has_it p) rs r is_in
-        (and_both (subst (λ (x : PhysPage). has_phys x r ≡ true) same (has-phys r q (g.whole-pages r is_in) h)) (ap not c))
+        (and_from _ _ (subst (λ (x : PhysPage). has_phys x r ≡ true) same (has-phys r q (g.whole-pages r is_in) h)) (ap not c))
     go false h c d e = absurd (let z : ◌≡◌ {A = ℕ} 0 1 = cc in omega arith)

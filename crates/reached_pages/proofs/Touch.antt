@@ -1,16 +1,11 @@
 -- What cells may touch, in every state reached: the mappings give it, two cells share it or one loads it, and none of it is hypervisor memory. The
 -- owner of a page goes by document 01's order, and the facts of Cells decide each of its rows. Assumes nothing.
-use mathlib.Core.Path.{◌≡◌, refl, sym, ap, ◌∙◌, subst}
-use mathlib.Core.Bool.{Bool, true, false, not, ◌&&◌, ◌||◌}
-use mathlib.Core.Logic.{◌⊎◌, inl, inr}
-use mathlib.Core.List.{List, Memᴰ}
-use Prim.Native.Nat.{ℕ, ◌≤◌}
-use native.Mathlib.Omega.{arith}
-use native.Mathlib.Decide.{ℕ_discrete}
-use lib.Dec.{eqb, eqb→eq}
+use Rattle.std.proofs.Common.{◌≡◌, refl, sym, ap, ◌∙◌, subst, Bool, true, false, not, ◌&&◌, ◌||◌, ◌⊎◌, inl, inr, List, ℕ, ◌≤◌, arith, ne_eqb}
+use Rattle.std.proofs.lemmas.Bool.{and_from, and_parts, both_ways, false_from_ne_true, not-true, or_cases}
+use mathlib.Core.List.{Memᴰ}
+use Rattle.std.proofs.Math.Decide.{ℕ_discrete}
 use Rattle.base.specs.Lists.{any}
 use Rattle.base.proofs.Rules.{by-rule}
-use Rattle.base.proofs.Tests.{holds}
 use Rattle.regions.specs.declared.MemRegion.{MemRegion}
 use Rattle.regions.specs.Regions.{comm, loadable, shared}
 use Rattle.machine_state.specs.declared.PhysPage.{PhysPage}
@@ -19,7 +14,7 @@ use Rattle.machine_state.specs.declared.Machine.{Machine}
 use Rattle.rules.specs.State.{cell_at, regions_at, cell_ids, live}
 use Rattle.rules.specs.Pages.{has_phys, has_booted, owns, shares, boot_has, owner_of, is_loading, loads, open_to_root, root_may_touch, cell_may_touch, may_touch}
 use Rattle.rules.proofs.Ids.{Found, any-from, any-from-true}
-use Rattle.reached.proofs.Members.{and_parts, and_both, or-either, is-not, not-true, clash, passed, any_of, some_of, Passes}
+use Rattle.reached.proofs.Members.{passed, any_of, some_of, Passes}
 use Rattle.reached.proofs.Table.{table_of}
 use Rattle.reached.proofs.Sound.{IsCell, Sound}
 use Rattle.reached_pages.specs.Touch.{Why, shared as is_shared, loading, loaded}
@@ -40,7 +35,7 @@ module _ (m : Machine) (s : Sound (table_of m)) where
 
   -- a region that passes the test of `has_it` and more
   has_of : (p : PhysPage) (rs : List MemRegion) (r : MemRegion) → Memᴰ r rs → has_it p r ≡ true → Has p rs r
-  has_of p rs r i e = let q = and_parts (has_phys p r) (not (comm r)) e in record { is_in = i; has = q.0; plain = is-not (comm r) q.1 }
+  has_of p rs r i e = let q = and_parts (has_phys p r) (not (comm r)) e in record { is_in = i; has = q.0; plain = not-true (comm r) q.1 }
 
   pub of-cell : (id : ℕ) (p : PhysPage) → (id ≡ 0 → ⊥) → cell_may_touch p m id ≡ true → Touches id p
   unfolding cell_may_touch
@@ -57,7 +52,7 @@ module _ (m : Machine) (s : Sound (table_of m)) where
 
   pub not_root : (id : ℕ) (p : PhysPage) → (id ≡ 0 → ⊥) → may_touch id p m ≡ cell_may_touch p m id
   unfolding may_touch
-  not_root id p n = passed _ _ (not-true {a = eqb id 0} (λ q. n (eqb→eq id 0 (holds q))))
+  not_root id p n = passed _ _ (ne_eqb id 0 n)
 
   pub is-root : (id : ℕ) (p : PhysPage) → id ≡ 0 → may_touch id p m ≡ root_may_touch p m
   unfolding may_touch
@@ -85,8 +80,8 @@ module _ (m : Machine) (s : Sound (table_of m)) where
       record {
         cell = record { other = n; lives = two.0 };
         region = r;
-        has = record { is_in = f.is_in; has = more.0; plain = is-not (comm r) parts.1 };
-        alone = is-not (shared r) more.1;
+        has = record { is_in = f.is_in; has = more.0; plain = not-true (comm r) parts.1 };
+        alone = not-true (shared r) more.1;
       }
 
   -- a page in a shared region of a cell is nobody's own
@@ -96,11 +91,11 @@ module _ (m : Machine) (s : Sound (table_of m)) where
       go : Dec (k ≡ i) → ⊥
       go (yes q) =
           let y : Has p (regions_at m i) o.region = subst (λ (n : ℕ). Has p (regions_at m n) o.region) q o.has in
-          clash (ap (λ (t : MemRegion). shared t) (one-region m s i c p o.region r y x) ∙ sh) o.alone
-      go (no q) = clash (both-shared m s k i o.cell c q p o.region r o.has x).0 o.alone
+          both_ways _ o.alone (ap (λ (t : MemRegion). shared t) (one-region m s i c p o.region r y x) ∙ sh)
+      go (no q) = both_ways _ o.alone (both-shared m s k i o.cell c q p o.region r o.has x).0
 
   none-owns : (i : ℕ) (p : PhysPage) (r : MemRegion) → Cell i → Has p (regions_at m i) r → shared r ≡ true → any (owns p m) cell_ids ≡ false
-  none-owns i p r c x sh = not-true (λ e. go (any-from (owns p m) 1 15 e))
+  none-owns i p r c x sh = false_from_ne_true _ (λ e. go (any-from (owns p m) 1 15 e))
     where
       go : ((k : ℕ) × Found (owns p m) 1 15 k) → ⊥
       go (k, f) = let low : 1 ≤ k = f.low in no-owner i p r c x sh k (owns-it k p (λ q. omega arith) f.passes)
@@ -108,10 +103,10 @@ module _ (m : Machine) (s : Sound (table_of m)) where
   shared-owner : (i : ℕ) (p : PhysPage) (r : MemRegion) → has_booted m.power ≡ true → Cell i → Has p (regions_at m i) r → shared r ≡ true → owner_of p m ≡ Owner.Shared
   unfolding owner_of shares
   shared-owner i p r b c x sh =
-      by-rule P _ _ _ (λ e. absurd (clash b (is-not (has_booted m.power) e)))
-      (λ e. by-rule P _ _ _ (λ e. absurd (clash e (not-hypervisor m s i c p r x)))
-      (λ e. by-rule P _ _ _ (λ e. absurd (clash e (none-owns i p r c x sh)))
-      (λ e. by-rule P _ _ _ (λ e. refl) (λ e. absurd (clash some e)))))
+      by-rule P _ _ _ (λ e. absurd (both_ways _ (not-true (has_booted m.power) e) b))
+      (λ e. by-rule P _ _ _ (λ e. absurd (both_ways _ (not-hypervisor m s i c p r x) e))
+      (λ e. by-rule P _ _ _ (λ e. absurd (both_ways _ (none-owns i p r c x sh) e))
+      (λ e. by-rule P _ _ _ (λ e. refl) (λ e. absurd (both_ways _ e some)))))
     where
       P : Owner → Type 0
       P o = o ≡ Owner.Shared
@@ -119,16 +114,16 @@ module _ (m : Machine) (s : Sound (table_of m)) where
       some : any (shares p m) cell_ids ≡ true
       some =
           any-from-true (shares p m) 1 15 i
-          (and_both c.lives (any_of (λ t. has_phys p t && shared t) (regions_at m i) r x.is_in (and_both x.has sh)))
+          (and_from _ _ c.lives (any_of (λ t. has_phys p t && shared t) (regions_at m i) r x.is_in (and_from _ _ x.has sh)))
           (positive i c.other) (s.few i c.lives)
 
   -- a page in a region of a cell that is not shared is closed to root
   owned : (i : ℕ) (p : PhysPage) (r : MemRegion) → Cell i → Has p (regions_at m i) r → shared r ≡ false → open_to_root (owner_of p m) ≡ false
-  unfolding owner_of open_to_root owns
+  unfolding owner_of owns
   owned i p r c x sh =
       by-rule P _ _ _ (λ e. refl)
       (λ e. by-rule P _ _ _ (λ e. refl)
-      (λ e. by-rule P _ _ _ (λ e. refl) (λ e. absurd (clash some e))))
+      (λ e. by-rule P _ _ _ (λ e. refl) (λ e. absurd (both_ways _ e some))))
     where
       P : Owner → Type 0
       P o = open_to_root o ≡ false
@@ -136,7 +131,7 @@ module _ (m : Machine) (s : Sound (table_of m)) where
       some : any (owns p m) cell_ids ≡ true
       some =
           any-from-true (owns p m) 1 15 i
-          (and_both c.lives (any_of _ (regions_at m i) r x.is_in (and_both (and_both x.has (ap not sh)) (ap not x.plain))))
+          (and_from _ _ c.lives (any_of _ (regions_at m i) r x.is_in (and_from _ _ (and_from _ _ x.has (ap not sh)) (ap not x.plain))))
           (positive i c.other) (s.few i c.lives)
 
   -- ---- two cells
@@ -177,19 +172,18 @@ module _ (m : Machine) (s : Sound (table_of m)) where
 
       by-sharing : (b : Bool) → shared y.region ≡ b → (owner_of p m ≡ Owner.Shared) ⊎ (loads p m j ≡ true)
       by-sharing true sh = inl (shared-owner j p y.region y.booted y.cell y.has sh)
-      by-sharing false sh = inr (go (or-either (open_to_root (owner_of p m)) (any (loads p m) cell_ids) opens))
+      by-sharing false sh = inr (go (or_cases (open_to_root (owner_of p m)) (any (loads p m) cell_ids) opens))
         where
           this : (k : ℕ) → Loads k p → loads p m k ≡ true → Dec (k ≡ j) → loads p m j ≡ true
           this k l e (yes q) = subst (λ (n : ℕ). loads p m n ≡ true) q e
           this k l e (no q) =
-              absurd (clash (both-shared m s k j l.cell y.cell q p l.region y.region l.has y.has).0
-              (not-shared m.system l.region (region-rules m s k l.cell l.region l.has.is_in) l.may_load))
+              absurd (both_ways _ (not-shared m.system l.region (region-rules m s k l.cell l.region l.has.is_in) l.may_load) (both-shared m s k j l.cell y.cell q p l.region y.region l.has y.has).0)
 
           found : ((k : ℕ) × Found (loads p m) 1 15 k) → loads p m j ≡ true
           found (k, f) = let low : 1 ≤ k = f.low in this k (loads-it k p (λ q. omega arith) f.passes) f.passes (ℕ_discrete k j)
 
           go : (open_to_root (owner_of p m) ≡ true) ⊎ (any (loads p m) cell_ids ≡ true) → loads p m j ≡ true
-          go (inl o) = absurd (clash o (owned j p y.region y.cell y.has sh))
+          go (inl o) = absurd (both_ways _ (owned j p y.region y.cell y.has sh) o)
           go (inr l) = found (any-from (loads p m) 1 15 l)
 
   pub two : (i j : ℕ) (p : PhysPage) → (i ≡ j → ⊥) → may_touch i p m ≡ true → may_touch j p m ≡ true → Why m i j p
@@ -217,4 +211,4 @@ module _ (m : Machine) (s : Sound (table_of m)) where
     where
       go : Owns i p → Owns j p → Dec (i ≡ j) → i ≡ j
       go x y (yes q) = q
-      go x y (no q) = absurd (clash (both-shared m s i j x.cell y.cell q p x.region y.region x.has y.has).0 x.alone)
+      go x y (no q) = absurd (both_ways _ x.alone (both-shared m s i j x.cell y.cell q p x.region y.region x.has y.has).0)

@@ -1,18 +1,12 @@
 -- Each claim is false of a wrong manager: a run on the box, computed, has a figure of the machine and one of the history that differ, or a page that
 -- two cells touch. Assumes nothing.
-use mathlib.Core.Path.{◌≡◌, refl, sym, ap, ◌∙◌}
-use mathlib.Core.Bool.{Bool, true, false, ◌&&◌, ◌||◌, true≢false}
-use mathlib.Core.List.{List, [], ◌∷◌}
-use Prim.Native.Nat.{ℕ, ◌+◌}
-use native.Mathlib.Omega.{arith}
-use lib.Dec.{eqb, eqb_refl}
-use lib.IntN.{pos}
+use Rattle.std.proofs.Common.{◌≡◌, refl, sym, ap, ◌∙◌, Bool, true, false, ◌&&◌, ◌||◌, true≢false, List, [], ◌∷◌, ℕ, ◌+◌, arith, eqb, pos}
+use Rattle.std.proofs.Math.Dec.{eqb_refl}
 use Rattle.base.proofs.Tests.{is_true}
 use Rattle.cpu_set.specs.CpuSet.{member}
 use Rattle.cell_record.specs.declared.CellConfig.{CellConfig}
 use Rattle.system_record.specs.SystemRecord.{system_of, boot_answer}
 use Rattle.machine_state.specs.declared.Owner.{Owner}
-use Rattle.machine_state.specs.declared.Owner.TheVariants as Owner
 use Rattle.rules.specs.State.{live}
 use Rattle.rules.specs.Pages.{has_page, owns, owner_of, may_touch, mapping_of}
 use Rattle.machine_state.specs.declared.Mapping.TheVariants.{Page}
@@ -135,7 +129,7 @@ record Runs : Type 0 where
   touches-it : may_touch 1 (page 0x3f000) (after ignores_hypervisor (start_of box) inside) ≡ true
 
 runs : Runs
-unfolding Lists.all Lists.any Lists.pairwise Lists.from Lists.same Rules.first_rule CpuSet.member CpuSet.number_of CpuSet.subset CpuSet.meets CpuSet.is_empty CpuSet.union CpuSet.without CpuSet.below CpuSet.count_below CpuSet.count Fields.little_endian Fields.field Fields.zeros Fields.leading Fields.is_name Fields.padded Regions.region_of Regions.no_region Regions.whole_pages Regions.placed Regions.flags_ok Regions.comm_ok Regions.overlap Regions.inside Regions.overlap_virt Regions.overlap_phys Regions.apart Regions.clear_of Regions.inside_phys Tables.region_at Tables.regions_of Tables.table_of SystemRecord.system_of SystemRecord.system_form SystemRecord.boot_region_ok SystemRecord.system_valid SystemRecord.out_of_range SystemRecord.overdrawn SystemRecord.boot_answer SystemRecord.read_system CellRecord.cell_of CellRecord.version_ok CellRecord.limit_ok CellRecord.cell_form CellRecord.cell_region_ok CellRecord.cell_valid CellRecord.cell_answer CellRecord.read_cell Machine.fresh_cpu Machine.no_comm Machine.no_cell Machine.first_machine Machine.power_after Machine.boot_of Room.region Room.box Room.cell_record Room.search Room.index Room.notes Run.after Run.run Room.booted Room.started Room.with_notes Room.phase_number State.first State.has_id State.active State.waits State.with_waiting State.with_power State.with_pool State.with_ids State.with_root_cpus State.with_cell State.with_comm State.with_cpus State.answered Unobeyed.is_on Unobeyed.store_denied Unobeyed.unobeyed Queries.get_info Queries.get_state Queries.cpu_get_info Create.other_cell_locked Create.invalid Create.name_in_use Create.conflict Create.conflicts Create.region_in_use Create.busy Create.free_id Create.no_room Effects.bump Effects.count_exit Effects.counted Effects.store_word Effects.stored Effects.fail_cpu Effects.all_failed Effects.cell_failed Effects.faulted Effects.change_in Effects.change_cpus Effects.cpus_changed Effects.start_cpu Effects.stop_cpu Effects.add_id Effects.drop_id Effects.new_cell Effects.new_comm Effects.cell_created Effects.with_phase Effects.in_phase Effects.clear_words Effects.cell_started Effects.cell_loadable Effects.cell_cut_off Effects.cell_destroyed Effects.all_destroyed Effects.disabled Effects.effect Asking.may_be_messaged Asking.next_to_message Asking.asks Asking.tells Asking.is_destroy Asking.message Asking.wait_for Asking.finished Asking.end_code Asking.tell Asking.carry_out Asking.none_to_ask Asking.ask Asking.is_heard Asking.consents Asking.hear Asking.is_last_poll Asking.polls_after Asking.with_polls Asking.cuts_off Asking.hears_at Asking.heard_at Asking.still_waits Asking.poll_cell Asking.poll Calls.disable_call Calls.create_call Calls.target_call Calls.call_by_code Calls.call Step.obeyed Step.step CommRegion.bytes History.has_cell History.record_brought History.cells_but History.smallest_free History.cells_after History.has_come History.come History.answered_by History.after_call History.after_telling History.after_poll History.seen Observer.kind_of_code Observer.target_of Answers.is_unobeyed Answers.is_negative Answers.is_wait Pages.has_page Pages.has_phys Pages.has_booted Pages.hypervisor_has Pages.owns Pages.shares Pages.boot_has Pages.owner_of Pages.is_loading Pages.loads Pages.open_to_root Pages.root_may_touch Pages.cell_may_touch Pages.may_touch Pages.has_virt Pages.region_for Pages.phys_of Pages.access_of Pages.mapped_by Pages.cell_mapping Pages.mapping_of State.or_root Owners.names Owners.cpu_owner_in Owners.cpus_of Pool.costs History.history_from Wrong.at_code Wrong.keeps_root_cpus Wrong.loses_record Wrong.keeps_pool Wrong.makes_up_pool Wrong.destroys_first Wrong.says_refused Wrong.answers_busy Wrong.creates_where Wrong.ignores_regions Wrong.ignores_cpus Wrong.half_a_page Wrong.misplaced Wrong.misplaces Wrong.keeps_pool_at_disable Wrong.with_system Wrong.elsewhere Wrong.ignores_hypervisor Refused.on_call Refused.does_nothing Refused.answers_zero Shown.passive_cell root_has owed_to_root figure owed_figure is_live is_created once twice gone off asked meeting named inside
+unfolding Lists.pairwise Lists.from Rules.first_rule CpuSet.member CpuSet.number_of CpuSet.subset CpuSet.meets CpuSet.is_empty CpuSet.union CpuSet.without CpuSet.below CpuSet.count_below CpuSet.count Fields.little_endian Fields.field Fields.is_name Fields.padded Regions.region_of Regions.no_region Regions.whole_pages Regions.placed Regions.flags_ok Regions.comm_ok Regions.overlap Regions.inside Regions.overlap_virt Regions.overlap_phys Regions.apart Regions.clear_of Regions.inside_phys Tables.region_at Tables.regions_of Tables.table_of SystemRecord.system_of SystemRecord.system_form SystemRecord.boot_region_ok SystemRecord.system_valid SystemRecord.out_of_range SystemRecord.overdrawn SystemRecord.boot_answer SystemRecord.read_system CellRecord.cell_of CellRecord.version_ok CellRecord.limit_ok CellRecord.cell_form CellRecord.cell_region_ok CellRecord.cell_valid CellRecord.cell_answer CellRecord.read_cell Machine.fresh_cpu Machine.no_comm Machine.no_cell Machine.first_machine Machine.power_after Machine.boot_of Room.region Room.box Room.cell_record Room.search Room.index Room.notes Run.after Run.run Room.booted Room.started Room.with_notes Room.phase_number State.first State.has_id State.active State.with_waiting State.with_power State.with_pool State.with_ids State.with_root_cpus State.with_cell State.with_comm State.with_cpus State.answered Unobeyed.store_denied Unobeyed.unobeyed Queries.get_info Queries.get_state Queries.cpu_get_info Create.other_cell_locked Create.invalid Create.name_in_use Create.conflict Create.conflicts Create.region_in_use Create.busy Create.free_id Create.no_room Effects.bump Effects.count_exit Effects.counted Effects.store_word Effects.stored Effects.fail_cpu Effects.all_failed Effects.cell_failed Effects.faulted Effects.change_in Effects.change_cpus Effects.cpus_changed Effects.start_cpu Effects.stop_cpu Effects.add_id Effects.drop_id Effects.new_cell Effects.new_comm Effects.cell_created Effects.with_phase Effects.in_phase Effects.clear_words Effects.cell_started Effects.cell_loadable Effects.cell_cut_off Effects.cell_destroyed Effects.all_destroyed Effects.disabled Effects.effect Asking.may_be_messaged Asking.next_to_message Asking.asks Asking.message Asking.wait_for Asking.finished Asking.end_code Asking.tell Asking.carry_out Asking.none_to_ask Asking.ask Asking.is_heard Asking.consents Asking.hear Asking.is_last_poll Asking.polls_after Asking.with_polls Asking.cuts_off Asking.hears_at Asking.heard_at Asking.still_waits Asking.poll_cell Asking.poll Calls.disable_call Calls.create_call Calls.target_call Calls.call_by_code Calls.call Step.obeyed Step.step CommRegion.bytes History.has_cell History.record_brought History.cells_but History.smallest_free History.cells_after History.has_come History.come History.answered_by History.after_call History.after_telling History.after_poll History.seen Observer.kind_of_code Observer.target_of Answers.is_unobeyed Answers.is_negative Answers.is_wait Pages.has_page Pages.has_phys Pages.hypervisor_has Pages.owns Pages.shares Pages.boot_has Pages.owner_of Pages.loads Pages.root_may_touch Pages.cell_may_touch Pages.may_touch Pages.has_virt Pages.region_for Pages.phys_of Pages.access_of Pages.mapped_by Pages.cell_mapping Pages.mapping_of State.or_root Owners.names Owners.cpu_owner_in Owners.cpus_of Pool.costs History.history_from Wrong.at_code Wrong.keeps_root_cpus Wrong.loses_record Wrong.keeps_pool Wrong.makes_up_pool Wrong.destroys_first Wrong.says_refused Wrong.answers_busy Wrong.creates_where Wrong.ignores_regions Wrong.ignores_cpus Wrong.half_a_page Wrong.misplaced Wrong.misplaces Wrong.keeps_pool_at_disable Wrong.with_system Wrong.elsewhere Wrong.ignores_hypervisor Refused.on_call Refused.does_nothing Refused.answers_zero Shown.passive_cell root_has owed_to_root figure owed_figure is_live is_created once twice gone off asked meeting named inside
 runs = record {
   accepted = refl;
   root-has = refl;
@@ -243,7 +237,7 @@ hypervisor-touched claim =
 -- ---- states in which the claims are not empty
 
 pub not-empty : NotEmpty
-unfolding Lists.all Lists.any Lists.pairwise Lists.from Lists.same Rules.first_rule CpuSet.member CpuSet.number_of CpuSet.subset CpuSet.meets CpuSet.is_empty CpuSet.union CpuSet.without CpuSet.below CpuSet.count_below CpuSet.count Fields.little_endian Fields.field Fields.zeros Fields.leading Fields.is_name Fields.padded Regions.region_of Regions.no_region Regions.whole_pages Regions.placed Regions.flags_ok Regions.comm_ok Regions.overlap Regions.inside Regions.overlap_virt Regions.overlap_phys Regions.apart Regions.clear_of Regions.inside_phys Tables.region_at Tables.regions_of Tables.table_of SystemRecord.system_of SystemRecord.system_form SystemRecord.boot_region_ok SystemRecord.system_valid SystemRecord.out_of_range SystemRecord.overdrawn SystemRecord.boot_answer SystemRecord.read_system CellRecord.cell_of CellRecord.version_ok CellRecord.limit_ok CellRecord.cell_form CellRecord.cell_region_ok CellRecord.cell_valid CellRecord.cell_answer CellRecord.read_cell Machine.fresh_cpu Machine.no_comm Machine.no_cell Machine.first_machine Machine.power_after Machine.boot_of Room.region Room.box Room.cell_record Room.search Room.index Room.notes Run.after Run.run Room.booted Room.started Room.with_notes Room.phase_number State.first State.has_id State.active State.waits State.with_waiting State.with_power State.with_pool State.with_ids State.with_root_cpus State.with_cell State.with_comm State.with_cpus State.answered Unobeyed.is_on Unobeyed.store_denied Unobeyed.unobeyed Queries.get_info Queries.get_state Queries.cpu_get_info Create.other_cell_locked Create.invalid Create.name_in_use Create.conflict Create.conflicts Create.region_in_use Create.busy Create.free_id Create.no_room Effects.bump Effects.count_exit Effects.counted Effects.store_word Effects.stored Effects.fail_cpu Effects.all_failed Effects.cell_failed Effects.faulted Effects.change_in Effects.change_cpus Effects.cpus_changed Effects.start_cpu Effects.stop_cpu Effects.add_id Effects.drop_id Effects.new_cell Effects.new_comm Effects.cell_created Effects.with_phase Effects.in_phase Effects.clear_words Effects.cell_started Effects.cell_loadable Effects.cell_cut_off Effects.cell_destroyed Effects.all_destroyed Effects.disabled Effects.effect Asking.may_be_messaged Asking.next_to_message Asking.asks Asking.tells Asking.is_destroy Asking.message Asking.wait_for Asking.finished Asking.end_code Asking.tell Asking.carry_out Asking.none_to_ask Asking.ask Asking.is_heard Asking.consents Asking.hear Asking.is_last_poll Asking.polls_after Asking.with_polls Asking.cuts_off Asking.hears_at Asking.heard_at Asking.still_waits Asking.poll_cell Asking.poll Calls.disable_call Calls.create_call Calls.target_call Calls.call_by_code Calls.call Step.obeyed Step.step CommRegion.bytes Observer.kind_of_code Observer.target_of Answers.is_unobeyed Answers.is_negative Answers.is_wait Pages.has_page Pages.has_phys Pages.has_booted Pages.hypervisor_has Pages.owns Pages.shares Pages.boot_has Pages.owner_of Pages.is_loading Pages.loads Pages.open_to_root Pages.root_may_touch Pages.cell_may_touch Pages.may_touch State.or_root Shown.passive_cell
+unfolding Lists.pairwise Lists.from Rules.first_rule CpuSet.member CpuSet.number_of CpuSet.subset CpuSet.meets CpuSet.is_empty CpuSet.union CpuSet.without CpuSet.below CpuSet.count_below CpuSet.count Fields.little_endian Fields.field Fields.is_name Fields.padded Regions.region_of Regions.no_region Regions.whole_pages Regions.placed Regions.flags_ok Regions.comm_ok Regions.overlap Regions.inside Regions.overlap_virt Regions.overlap_phys Regions.apart Regions.clear_of Regions.inside_phys Tables.region_at Tables.regions_of Tables.table_of SystemRecord.system_of SystemRecord.system_form SystemRecord.boot_region_ok SystemRecord.system_valid SystemRecord.out_of_range SystemRecord.overdrawn SystemRecord.boot_answer SystemRecord.read_system CellRecord.cell_of CellRecord.version_ok CellRecord.limit_ok CellRecord.cell_form CellRecord.cell_region_ok CellRecord.cell_valid CellRecord.cell_answer CellRecord.read_cell Machine.fresh_cpu Machine.no_comm Machine.no_cell Machine.first_machine Machine.power_after Machine.boot_of Room.region Room.box Room.cell_record Room.search Room.index Room.notes Run.after Run.run Room.booted Room.started Room.with_notes Room.phase_number State.first State.has_id State.active State.with_waiting State.with_power State.with_pool State.with_ids State.with_root_cpus State.with_cell State.with_comm State.with_cpus State.answered Unobeyed.store_denied Unobeyed.unobeyed Queries.get_info Queries.get_state Queries.cpu_get_info Create.other_cell_locked Create.invalid Create.name_in_use Create.conflict Create.conflicts Create.region_in_use Create.busy Create.free_id Create.no_room Effects.bump Effects.count_exit Effects.counted Effects.store_word Effects.stored Effects.fail_cpu Effects.all_failed Effects.cell_failed Effects.faulted Effects.change_in Effects.change_cpus Effects.cpus_changed Effects.start_cpu Effects.stop_cpu Effects.add_id Effects.drop_id Effects.new_cell Effects.new_comm Effects.cell_created Effects.with_phase Effects.in_phase Effects.clear_words Effects.cell_started Effects.cell_loadable Effects.cell_cut_off Effects.cell_destroyed Effects.all_destroyed Effects.disabled Effects.effect Asking.may_be_messaged Asking.next_to_message Asking.asks Asking.message Asking.wait_for Asking.finished Asking.end_code Asking.tell Asking.carry_out Asking.none_to_ask Asking.ask Asking.is_heard Asking.consents Asking.hear Asking.is_last_poll Asking.polls_after Asking.with_polls Asking.cuts_off Asking.hears_at Asking.heard_at Asking.still_waits Asking.poll_cell Asking.poll Calls.disable_call Calls.create_call Calls.target_call Calls.call_by_code Calls.call Step.obeyed Step.step CommRegion.bytes Observer.kind_of_code Observer.target_of Answers.is_unobeyed Answers.is_negative Answers.is_wait Pages.has_page Pages.has_phys Pages.hypervisor_has Pages.owns Pages.shares Pages.boot_has Pages.owner_of Pages.loads Pages.root_may_touch Pages.cell_may_touch Pages.may_touch State.or_root Shown.passive_cell
 not-empty = record {
   accepted = refl;
   first_shares = refl;

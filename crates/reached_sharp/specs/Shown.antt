@@ -2,7 +2,6 @@
 use Rattle.std.specs.Prelude.{◌≡◌, true, List, [], ◌∷◌, ℕ}
 use Rattle.machine_state.specs.declared.PhysPage.{PhysPage}
 use Rattle.machine_state.specs.declared.Owner.{Owner}
-use Rattle.machine_state.specs.declared.Owner.TheVariants as Owner
 use Rattle.machine_state.specs.declared.Machine.{Machine}
 use Rattle.rules.specs.Pages.{owner_of, loads, may_touch}
 use Rattle.rules.specs.Step.{step}

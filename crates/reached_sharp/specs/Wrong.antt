@@ -1,6 +1,6 @@
 -- Wrong managers, each a small change of the right one, against which the claims about reached states are held. `refusals` has two more: one that
 -- does nothing and answers 0, and one that does all and answers 0.
-use Rattle.std.specs.Prelude.{Bool, true, false, not, ◌&&◌, ℕ, ◌+◌, ◌^◌, eqb, get_or, set, pos, negsuc}
+use Rattle.std.specs.Prelude.{Bool, true, false, not, ◌&&◌, ℕ, ◌+◌, ◌^◌, eqb, get_or, set, negsuc}
 use Rattle.base.specs.Rules.{EPERM}
 use Rattle.cpu_set.specs.CpuSet.{member, subset}
 use Rattle.regions.specs.declared.MemRegion.{MemRegion}
@@ -9,9 +9,9 @@ use Rattle.system_record.specs.declared.SystemConfig.{SystemConfig}
 use Rattle.cell_record.specs.CellRecord.{cell_of, cell_regions}
 use Rattle.cell_record.specs.declared.CellConfig.{CellConfig}
 use Rattle.machine_state.specs.declared.Cell.{Cell}
-use Rattle.machine_state.specs.declared.Event.TheVariants.{Call, Store, Fault, Exit, Poll, Malformed}
+use Rattle.machine_state.specs.declared.Event.TheVariants.{Call}
 use Rattle.machine_state.specs.declared.Answer.{Answer}
-use Rattle.machine_state.specs.declared.Answer.TheVariants.{Code, Wait, Done, Off, Bad, Stopped, Held, Denied, Idle}
+use Rattle.machine_state.specs.declared.Answer.TheVariants.{Code}
 use Rattle.machine_state.specs.declared.Machine.{Machine}
 use Rattle.machine_state.specs.declared.Stepped.{Stepped}
 use Rattle.machine_state.specs.Machine.{no_cell}
@@ -62,16 +62,8 @@ says_refused e bytes m = answered (Code EPERM) (step e bytes m).machine
 
 -- -16
 unfoldable pub answers_busy : Answer → Bool
-answers_busy (Code (pos n)) = false
 answers_busy (Code (negsuc n)) = eqb n 15
-answers_busy (Wait cell) = false
-answers_busy Done = false
-answers_busy Off = false
-answers_busy Bad = false
-answers_busy Stopped = false
-answers_busy Held = false
-answers_busy Denied = false
-answers_busy Idle = false
+answers_busy _ = false
 
 -- Create goes on where -16 refuses it and a test passes on its caller and its record
 unfoldable pub creates_where : (ℕ → CellConfig → Machine → Bool) → Manager
@@ -81,11 +73,7 @@ creates_where test (Call cpu code a1 a2) bytes m =
       | true ↦ ask Create (free_id s.machine) 0 (cell_of bytes) s.machine
       | false ↦ s
     ]
-creates_where test (Store cpu word value) bytes m = step (Store cpu word value) bytes m
-creates_where test (Fault cpu) bytes m = step (Fault cpu) bytes m
-creates_where test (Exit cpu kind) bytes m = step (Exit cpu kind) bytes m
-creates_where test Poll bytes m = step Poll bytes m
-creates_where test Malformed bytes m = step Malformed bytes m
+creates_where test e bytes m = step e bytes m
 
 -- Create does not look at regions that meet another cell's
 unfoldable pub ignores_regions : Manager
@@ -97,46 +85,20 @@ ignores_cpus = creates_where (λ caller new m. not (member caller new.cpus) && n
 
 -- Create puts the first region half a page further
 unfoldable pub half_a_page : MemRegion → MemRegion
-half_a_page r = record { phys = r.phys + 2048; virt = r.virt; size = r.size; flags = r.flags }
+half_a_page r = record r { phys = r.phys + 2048 }
 
 unfoldable pub misplaced : Cell → Cell
-misplaced c = record {
-  phase = c.phase;
-  name = c.name;
-  cpus = c.cpus;
-  region_count = c.region_count;
-  regions = set c.regions 0 (half_a_page (get_or c.regions 0 no_region));
-}
+misplaced c = record c { regions = set c.regions 0 (half_a_page (get_or c.regions 0 no_region)) }
 
 unfoldable pub misplaces : Manager
 misplaces = on_call not_refused (λ cpu code a1 before after. at_code cell_create code (with_cell 1 (misplaced (cell_at after 1)) after) after)
 
 -- hypervisor memory is not looked at: every event meets a machine whose hypervisor is one page at the end of memory
 unfoldable pub with_system : SystemConfig → Machine → Machine
-with_system system m = record {
-  power = m.power;
-  system = system;
-  pool_used = m.pool_used;
-  live_ids = m.live_ids;
-  root_cpus = m.root_cpus;
-  cells = m.cells;
-  comms = m.comms;
-  cpus = m.cpus;
-  waiting = m.waiting;
-}
+with_system system m = record m { system = system }
 
 unfoldable pub elsewhere : SystemConfig → SystemConfig
-elsewhere c = record {
-  name = c.name;
-  cpus = c.cpus;
-  possible = c.possible;
-  hypervisor = record { start = 2 ^ 47; size = 4096 };
-  pool = c.pool;
-  remap = c.remap;
-  timer = c.timer;
-  region_count = c.region_count;
-  regions = c.regions;
-}
+elsewhere c = record c { hypervisor = record { start = 2 ^ 47; size = 4096 } }
 
 unfoldable pub ignores_hypervisor : Manager
 ignores_hypervisor e bytes m =

@@ -1,7 +1,6 @@
 -- The starred lines of the reading-room box, by computation: the definitions are run on the box's records, from their bytes on. Assumes
 -- nothing.
-use mathlib.Core.Path.{◌≡◌, refl}
-use mathlib.Core.Bool.{true}
+use Rattle.std.proofs.Common.{◌≡◌, refl, true}
 use Rattle.reading_room.specs.ReadingRoom as Room
 use Rattle.reading_room.specs.ReadingRoom.{row_holds, starred}
 use Rattle.base.specs.Lists.{all}
@@ -29,5 +28,5 @@ use Rattle.texts.specs.Texts as Texts
 
 -- every row holds
 pub reading-room : all row_holds starred ≡ true
-unfolding Lists.all Lists.any Lists.pairwise Lists.from Lists.same Rules.first_rule CpuSet.member CpuSet.number_of CpuSet.subset CpuSet.meets CpuSet.is_empty CpuSet.union CpuSet.without CpuSet.below CpuSet.count_below CpuSet.count Fields.little_endian Fields.field Fields.zeros Fields.leading Fields.is_name Fields.padded Regions.region_of Regions.no_region Regions.whole_pages Regions.placed Regions.flags_ok Regions.comm_ok Regions.overlap Regions.inside Regions.overlap_virt Regions.overlap_phys Regions.apart Regions.clear_of Regions.inside_phys Tables.region_at Tables.regions_of Tables.table_of SystemRecord.system_of SystemRecord.system_form SystemRecord.boot_region_ok SystemRecord.system_valid SystemRecord.out_of_range SystemRecord.overdrawn SystemRecord.boot_answer SystemRecord.read_system CellRecord.cell_of CellRecord.version_ok CellRecord.limit_ok CellRecord.cell_form CellRecord.cell_region_ok CellRecord.cell_valid CellRecord.cell_answer CellRecord.read_cell Machine.fresh_cpu Machine.no_comm Machine.no_cell Machine.first_machine Machine.power_after Machine.boot_of Texts.decimal_in Texts.signed Texts.answer_text Texts.put_line Texts.put_count Room.region Room.box Room.cell_record Room.search Room.index Room.notes Run.after Room.booted Room.started Room.with_notes Room.half_round Room.phase_number Room.region_numbers Room.cell_numbers Room.same_bool Room.owner_numbers Room.same_cell Room.same_table Room.owned_by Room.claim_holds Room.log_holds Room.said_lines Room.row_holds Room.starred State.first State.has_id State.active State.named_by State.or_root State.cpu_owner State.waits State.with_waiting State.with_power State.with_pool State.with_ids State.with_root_cpus State.with_cell State.with_comm State.with_cpus State.answered Unobeyed.is_on Unobeyed.store_denied Unobeyed.unobeyed Queries.get_info Queries.get_state Queries.cpu_get_info Create.other_cell_locked Create.invalid Create.name_in_use Create.conflict Create.conflicts Create.region_in_use Create.busy Create.free_id Create.no_room Effects.bump Effects.count_exit Effects.counted Effects.store_word Effects.stored Effects.fail_cpu Effects.all_failed Effects.cell_failed Effects.faulted Effects.change_in Effects.change_cpus Effects.cpus_changed Effects.start_cpu Effects.stop_cpu Effects.add_id Effects.drop_id Effects.new_cell Effects.new_comm Effects.cell_created Effects.with_phase Effects.in_phase Effects.clear_words Effects.cell_started Effects.cell_loadable Effects.cell_cut_off Effects.cell_destroyed Effects.all_destroyed Effects.disabled Effects.effect Asking.may_be_messaged Asking.next_to_message Asking.asks Asking.tells Asking.is_destroy Asking.message Asking.wait_for Asking.finished Asking.end_code Asking.tell Asking.carry_out Asking.none_to_ask Asking.ask Asking.is_heard Asking.consents Asking.hear Asking.is_last_poll Asking.polls_after Asking.with_polls Asking.cuts_off Asking.hears_at Asking.heard_at Asking.still_waits Asking.poll_cell Asking.poll Calls.disable_call Calls.create_call Calls.target_call Calls.call_by_code Calls.call Step.obeyed Step.step Pages.has_page Pages.has_phys Pages.has_virt Pages.has_booted Pages.hypervisor_has Pages.owns Pages.shares Pages.boot_has Pages.owner_of Pages.is_loading Pages.loads Pages.open_to_root Pages.root_may_touch Pages.cell_may_touch Pages.may_touch Pages.region_for Pages.phys_of Pages.access_of Pages.mapped_by Pages.cell_mapping Pages.if_touchable Pages.root_mapping Pages.mapping_of CommRegion.bytes CommRegion.layout CommRegion.sees_region CommRegion.region_word CommRegion.region_byte
+unfolding Lists.pairwise Lists.from Rules.first_rule CpuSet.member CpuSet.number_of CpuSet.subset CpuSet.meets CpuSet.is_empty CpuSet.union CpuSet.without CpuSet.below CpuSet.count_below CpuSet.count Fields.little_endian Fields.field Fields.is_name Fields.padded Regions.region_of Regions.no_region Regions.whole_pages Regions.placed Regions.flags_ok Regions.comm_ok Regions.overlap Regions.inside Regions.overlap_virt Regions.overlap_phys Regions.apart Regions.clear_of Regions.inside_phys Tables.region_at Tables.regions_of Tables.table_of SystemRecord.system_of SystemRecord.system_form SystemRecord.boot_region_ok SystemRecord.system_valid SystemRecord.out_of_range SystemRecord.overdrawn SystemRecord.boot_answer SystemRecord.read_system CellRecord.cell_of CellRecord.version_ok CellRecord.limit_ok CellRecord.cell_form CellRecord.cell_region_ok CellRecord.cell_valid CellRecord.cell_answer CellRecord.read_cell Machine.fresh_cpu Machine.no_comm Machine.no_cell Machine.first_machine Machine.power_after Machine.boot_of Texts.decimal_in Texts.signed Texts.answer_text Texts.put_line Texts.put_count Room.region Room.box Room.cell_record Room.search Room.index Room.notes Run.after Room.booted Room.started Room.with_notes Room.half_round Room.phase_number Room.region_numbers Room.cell_numbers Room.same_bool Room.owner_numbers Room.same_cell Room.same_table Room.owned_by Room.claim_holds Room.log_holds Room.said_lines Room.row_holds Room.starred State.first State.has_id State.active State.named_by State.or_root State.cpu_owner State.with_waiting State.with_power State.with_pool State.with_ids State.with_root_cpus State.with_cell State.with_comm State.with_cpus State.answered Unobeyed.store_denied Unobeyed.unobeyed Queries.get_info Queries.get_state Queries.cpu_get_info Create.other_cell_locked Create.invalid Create.name_in_use Create.conflict Create.conflicts Create.region_in_use Create.busy Create.free_id Create.no_room Effects.bump Effects.count_exit Effects.counted Effects.store_word Effects.stored Effects.fail_cpu Effects.all_failed Effects.cell_failed Effects.faulted Effects.change_in Effects.change_cpus Effects.cpus_changed Effects.start_cpu Effects.stop_cpu Effects.add_id Effects.drop_id Effects.new_cell Effects.new_comm Effects.cell_created Effects.with_phase Effects.in_phase Effects.clear_words Effects.cell_started Effects.cell_loadable Effects.cell_cut_off Effects.cell_destroyed Effects.all_destroyed Effects.disabled Effects.effect Asking.may_be_messaged Asking.next_to_message Asking.asks Asking.message Asking.wait_for Asking.finished Asking.end_code Asking.tell Asking.carry_out Asking.none_to_ask Asking.ask Asking.is_heard Asking.consents Asking.hear Asking.is_last_poll Asking.polls_after Asking.with_polls Asking.cuts_off Asking.hears_at Asking.heard_at Asking.still_waits Asking.poll_cell Asking.poll Calls.disable_call Calls.create_call Calls.target_call Calls.call_by_code Calls.call Step.obeyed Step.step Pages.has_page Pages.has_phys Pages.has_virt Pages.hypervisor_has Pages.owns Pages.shares Pages.boot_has Pages.owner_of Pages.loads Pages.root_may_touch Pages.cell_may_touch Pages.may_touch Pages.region_for Pages.phys_of Pages.access_of Pages.mapped_by Pages.cell_mapping Pages.if_touchable Pages.root_mapping Pages.mapping_of CommRegion.bytes CommRegion.layout CommRegion.sees_region CommRegion.region_word CommRegion.region_byte
 reading-room = refl

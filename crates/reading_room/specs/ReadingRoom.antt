@@ -99,9 +99,7 @@ with_notes = after step started (log_create 0 notes ∷ log_store 2 1 4 ∷ log_
 -- a raw counter: the total of CPU 1 at 0x80000000
 unfoldable pub half_round : Machine
 half_round =
-    let p = cpu_at started 1 in
-    let q : Cpu = record { cell = p.cell; stopped = p.stopped; failed = p.failed; counters = set p.counters 0 0x80000000 } in
-    with_cpu 1 q started
+    let p = cpu_at started 1 in with_cpu 1 (record p { counters = set p.counters 0 0x80000000 }) started
 
 -- a line and the answer that it has to have
 pub record Said : Type 0 where
@@ -159,11 +157,8 @@ same_table m n =
     && same (owner_numbers m.cpus) (owner_numbers n.cpus) && all (same_cell m n) cell_ids
 
 unfoldable pub owned_by : ℕ → Owner → Bool
-owned_by id Owner.Hypervisor = false
 owned_by id (Owner.Cell k) = eqb id k
-owned_by id Owner.Shared = false
-owned_by id Owner.Root = false
-owned_by id Owner.Nobody = false
+owned_by id _ = false
 
 unfoldable pub claim_holds : Machine → Machine → Claim → Bool
 claim_holds before m (PoolUsed n) = eqb m.pool_used n

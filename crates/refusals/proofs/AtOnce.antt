@@ -1,17 +1,12 @@
 -- What an unobeyed and a refused event leave. A word of the table of unobeyed events comes with the machine as it was; an obeyed call answers no
 -- word, and a negative code only where it ends at once; a poll answers a negative code only where it ends the call. Assumes nothing.
-use mathlib.Core.Path.{◌≡◌, refl, sym, ◌∙◌}
-use mathlib.Core.Bool.{Bool, true, false, ◌&&◌, true≢false}
-use mathlib.Core.List.{List}
-use Prim.Native.Nat.{ℕ}
-use lib.IntN.{ℤ, pos}
+use Rattle.std.proofs.Common.{◌≡◌, refl, sym, ◌∙◌, Bool, true, false, ◌&&◌, true≢false, List, ℕ, ℤ, pos, None, Some}
 use Rattle.cell_record.specs.declared.CellConfig.{CellConfig}
 use Rattle.cell_record.specs.CellRecord.{cell_of}
 use Rattle.machine_state.specs.declared.CallKind.{CallKind}
 use Rattle.machine_state.specs.declared.CallKind.TheVariants.{Disable, Create, Start, SetLoadable, Destroy}
 use Rattle.machine_state.specs.declared.Stage.{Stage}
-use Rattle.machine_state.specs.declared.Waiting.{Waiting}
-use Rattle.machine_state.specs.declared.Waiting.TheVariants.{NoCall, Pending}
+use Rattle.machine_state.specs.Machine.{Waiting}
 use Rattle.machine_state.specs.declared.Event.{Event}
 use Rattle.machine_state.specs.declared.Event.TheVariants.{Call, Store, Fault, Exit, Poll, Malformed}
 use Rattle.machine_state.specs.declared.Answer.{Answer}
@@ -79,7 +74,6 @@ ask-leaves k m kind target new unlocked =
     (λ n. ends-well k m n _)
 
 call-leaves : (k m : Machine) (cpu code a1 a2 : ℕ) (bytes : List ℕ) → Leaves k m (call cpu code a1 a2 bytes m)
-unfolding is_destroy
 call-leaves k m cpu code a1 a2 bytes =
     call-cases (Leaves k m) cpu code a1 a2 bytes m
     (record {
@@ -91,10 +85,10 @@ call-leaves k m cpu code a1 a2 bytes =
       destroys = λ e may. ask-leaves k m Destroy a1 (cell_of bytes) may.unlocked;
     })
 
-poll-leaves : (w : Waiting) (new : CellConfig) (m : Machine) → Leaves m (with_waiting NoCall (heard_in w m)) (poll w new m)
+poll-leaves : (w : Waiting) (new : CellConfig) (m : Machine) → Leaves m (with_waiting None (heard_in w m)) (poll w new m)
 unfolding poll is_unobeyed finished heard_in heard_at cuts_off
-poll-leaves NoCall new m = words-keep m (with_waiting NoCall m) Idle refl
-poll-leaves (Pending kind stage) new m = by-stage stage.telling
+poll-leaves None new m = words-keep m (with_waiting None m) Idle refl
+poll-leaves (Some (kind, stage)) new m = by-stage stage.telling
   where
     target : ℕ
     target = stage.target
@@ -106,7 +100,7 @@ poll-leaves (Pending kind stage) new m = by-stage stage.telling
     heard = heard_at stage m
 
     left : Machine
-    left = with_waiting NoCall heard
+    left = with_waiting None heard
 
     by-stage : (b : Bool) → Leaves m left (poll_cell kind (record { target = target; cell = cell; telling = b; polls = stage.polls }) new m)
     by-stage true =

@@ -1,22 +1,15 @@
 -- An answer is negative exactly where a row of a table refuses. Each table is walked row by row, over plain truth values in place of its tests:
 -- a row with a negative code answers it where it holds, and past all rows the answer is not negative. Counting the caller changes none of the
 -- tests. Assumes nothing.
-use mathlib.Core.Path.{◌≡◌, refl, sym, ap, ap₂, ◌∙◌}
-use mathlib.Core.Bool.{Bool, true, false, not, ◌&&◌, ◌||◌, or-false, true≢false}
-use mathlib.Core.List.{List, [], ◌∷◌}
-use Prim.Native.Nat.{ℕ, zero, suc}
-use native.Mathlib.Omega.{arith}
-use borrow.Author.Tests.{lt-ltb, ne_eqb}
-use lib.Dec.{leb, ltb, eqb}
-use lib.IntN.{pos}
+use Rattle.std.proofs.Common.{◌≡◌, refl, sym, ap, ap₂, ◌∙◌, Bool, true, false, not, ◌&&◌, ◌||◌, true≢false, List, [], ◌∷◌, ℕ, zero, suc, arith, lt-ltb, ne_eqb, leb, ltb, eqb, pos, None, Some}
+use Rattle.std.proofs.Math.Bool.{or-false}
 use Rattle.base.specs.Rules.{first_rule, ◌⇒◌, EPERM, ENOENT, E2BIG, ENOMEM, EBUSY, EEXIST, EINVAL, ENOSYS}
 use Rattle.cpu_set.specs.CpuSet.{member}
 use Rattle.cell_record.specs.declared.CellConfig.{CellConfig}
 use Rattle.cell_record.specs.CellRecord.{cell_of}
 use Rattle.machine_state.specs.declared.CallKind.{CallKind}
 use Rattle.machine_state.specs.declared.CallKind.TheVariants.{Disable, Create, Start, SetLoadable, Destroy}
-use Rattle.machine_state.specs.declared.Waiting.{Waiting}
-use Rattle.machine_state.specs.declared.Waiting.TheVariants.{NoCall, Pending}
+use Rattle.machine_state.specs.Machine.{Waiting}
 use Rattle.machine_state.specs.declared.Event.{Event}
 use Rattle.machine_state.specs.declared.Event.TheVariants.{Call, Store, Fault, Exit, Poll, Malformed}
 use Rattle.machine_state.specs.declared.Answer.{Answer}
@@ -127,7 +120,7 @@ ask-well kind target after new m unlocked =
     ask-cases Well kind target after new m (λ c l. refl) (λ locked. absurd (true≢false (sym locked ∙ unlocked))) (λ c l. refl) (λ n. refl)
 
 disable-negative : (new : CellConfig) (m : Machine) → negative (disable_call new m) ≡ false
-unfolding disable_call is_destroy
+unfolding disable_call
 disable-negative new m = ask-well Disable root_id 0 new m refl
 
 create-rows : (a b c d e f : Bool) (m : Machine) (otherwise : Stepped) → negative otherwise ≡ false
@@ -143,7 +136,7 @@ create-rows false false false false false true m otherwise h = refl
 create-rows false false false false false false m otherwise h = h
 
 create-negative : (cpu : ℕ) (bytes : List ℕ) (m : Machine) → negative (create_call cpu bytes m) ≡ create_refused cpu bytes m
-unfolding create_call is_destroy
+unfolding create_call
 create-negative cpu bytes m =
     create-rows (some_cell_locked m) (too_long bytes) (invalid bytes m) (name_in_use (cell_of bytes).name m) (busy cpu (cell_of bytes) m) (no_room (cell_of bytes) m) m _
     (ask-well Create (free_id m) 0 (cell_of bytes) m refl)
@@ -189,7 +182,7 @@ module _ (cpu a1 a2 : ℕ) (bytes : List ℕ) (m : Machine) where
 
   -- of the rows of `call_refused` those of other codes are false
   agrees : (code : ℕ) → Agrees code
-  unfolding call_by_code first_rule call_refused negative is_destroy answered
+  unfolding call_by_code first_rule call_refused negative answered
   agrees zero = by_rows 0 false (disable-negative (cell_of bytes) m) (simp or-false)
   agrees (suc zero) = by_rows 1 (create_refused cpu bytes m) (create-negative cpu bytes m) (simp or-false)
   agrees (suc (suc zero)) = by_rows 2 (target_refused a1 m) (target-negative Start a1 (cell_of bytes) m ∙ or-false _) (simp or-false)
@@ -257,8 +250,8 @@ carry-well kind target new m = carry-cases Well kind target new m (λ c l. refl)
 
 poll-negative : (w : Waiting) (new : CellConfig) (m : Machine) → negative (poll w new m) ≡ waiting_refused w m
 unfolding poll poll_cell hear ask none_to_ask waiting_refused negative is_negative answered wait_for
-poll-negative NoCall new m = refl
-poll-negative (Pending kind stage) new m =
+poll-negative None new m = refl
+poll-negative (Some (kind, stage)) new m =
     let heard = heard_at stage m in
     let next = next_to_message (asks kind stage.target) stage.cell heard in
     heard-rows (hears_at stage m) stage.telling (consents (comm_at heard stage.cell)) (ltb next no_id) (is_destroy kind && other_cell_locked stage.target heard) heard

@@ -4,8 +4,8 @@
 -- that poll .. leaves such a cell failed and stopped". For every machine.
 use Rattle.std.specs.Prelude.{◌≡◌, true, List, ℕ}
 use Rattle.machine_state.specs.declared.Event.{Event}
-use Rattle.machine_state.specs.declared.Event.TheVariants.{Call, Store, Fault, Exit, Poll, Malformed}
-use Rattle.machine_state.specs.declared.Waiting.TheVariants.{NoCall}
+use Rattle.machine_state.specs.declared.Event.TheVariants.{Call, Poll}
+use Rattle.std.specs.Prelude.{None}
 use Rattle.machine_state.specs.declared.Machine.{Machine}
 use Rattle.rules.specs.State.{with_waiting}
 use Rattle.rules.specs.Effects.{counted, call_counter}
@@ -22,11 +22,8 @@ UnobeyedKeeps manager =
 -- poll. No other event is answered by a code
 unfoldable pub refusal_leaves : Event → Machine → Machine
 refusal_leaves (Call cpu code a1 a2) m = counted call_counter cpu m
-refusal_leaves (Store cpu word value) m = m
-refusal_leaves (Fault cpu) m = m
-refusal_leaves (Exit cpu kind) m = m
-refusal_leaves Poll m = with_waiting NoCall (heard_in m.waiting m)
-refusal_leaves Malformed m = m
+refusal_leaves Poll m = with_waiting None (heard_in m.waiting m)
+refusal_leaves _ m = m
 
 abbrev pub RefusedAtOnce : Manager → Type 0
 RefusedAtOnce manager =

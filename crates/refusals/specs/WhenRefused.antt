@@ -6,10 +6,10 @@ use Rattle.cpu_set.specs.CpuSet.{member}
 use Rattle.cell_record.specs.CellRecord.{cell_of}
 use Rattle.machine_state.specs.declared.CallKind.{CallKind}
 use Rattle.machine_state.specs.declared.Stage.{Stage}
-use Rattle.machine_state.specs.declared.Waiting.{Waiting}
-use Rattle.machine_state.specs.declared.Waiting.TheVariants.{NoCall, Pending}
+use Rattle.machine_state.specs.Machine.{Waiting}
+use Rattle.std.specs.Prelude.{None, Some}
 use Rattle.machine_state.specs.declared.Event.{Event}
-use Rattle.machine_state.specs.declared.Event.TheVariants.{Call, Store, Fault, Exit, Poll, Malformed}
+use Rattle.machine_state.specs.declared.Event.TheVariants.{Call, Poll}
 use Rattle.machine_state.specs.declared.Machine.{Machine}
 use Rattle.rules.specs.State.{root_id, boot_cpu_set, comm_at, cpu_at, state_at, no_id, live}
 use Rattle.rules.specs.Unobeyed.{is_obeyed}
@@ -69,19 +69,16 @@ none_left kind stage m = not (ltb (next_to_message (asks kind stage.target) stag
 -- a poll refuses the waiting call: the cell that it asked denies; or none is left to ask, the call is Destroy and another cell has a lock. It is
 -- heard on the machine where its limit may have cut it off
 unfoldable pub waiting_refused : Waiting → Machine → Bool
-waiting_refused NoCall m = false
-waiting_refused (Pending kind stage) m =
+waiting_refused None m = false
+waiting_refused (Some (kind, stage)) m =
     let heard = heard_at stage m in
     not stage.telling && hears_at stage m
     && (not (consents (comm_at heard stage.cell)) || none_left kind stage heard && (is_destroy kind && other_cell_locked stage.target heard))
 
 unfoldable pub refuses : Event → List ℕ → Machine → Bool
 refuses (Call cpu code a1 a2) bytes m = call_refused cpu code a1 a2 bytes m
-refuses (Store cpu word value) bytes m = false
-refuses (Fault cpu) bytes m = false
-refuses (Exit cpu kind) bytes m = false
 refuses Poll bytes m = waiting_refused m.waiting m
-refuses Malformed bytes m = false
+refuses _ bytes m = false
 
 -- negative exactly where the event is obeyed and refused
 abbrev pub NegativeIsRefusal : Manager → Type 0

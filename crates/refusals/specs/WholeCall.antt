@@ -4,11 +4,10 @@
 -- and a poll that hears nothing changes the count of polls alone. What other CPUs change between its steps is theirs.
 use Rattle.std.specs.Prelude.{◌≡◌, Bool, true, false, List, [], ◌∷◌, ℕ, eqb}
 use Rattle.base.specs.Lists.{any}
-use Rattle.machine_state.specs.declared.Event.{Event}
-use Rattle.machine_state.specs.declared.Event.TheVariants.{Call, Store, Fault, Exit, Poll, Malformed}
-use Rattle.machine_state.specs.declared.Waiting.TheVariants.{NoCall}
+use Rattle.machine_state.specs.declared.Event.TheVariants.{Call}
+use Rattle.std.specs.Prelude.{None}
 use Rattle.machine_state.specs.declared.Answer.{Answer}
-use Rattle.machine_state.specs.declared.Answer.TheVariants.{Code, Wait, Done, Off, Bad, Stopped, Held, Denied, Idle}
+use Rattle.machine_state.specs.declared.Answer.TheVariants.{Code, Wait}
 use Rattle.machine_state.specs.declared.Machine.{Machine}
 use Rattle.rules.specs.State.{root_id, comm_at, with_waiting, with_comm}
 use Rattle.rules.specs.Effects.{counted, call_counter}
@@ -35,7 +34,7 @@ ends_refused hs = any (λ (h : Happened). is_negative h.answer) (own_polls hs)
 
 -- a machine without its waiting call, and without the two message words of cell `id`
 abbrev pub none_waiting : Machine → Machine
-none_waiting m = with_waiting NoCall m
+none_waiting m = with_waiting None m
 
 abbrev pub unmessaged : ℕ → Machine → Machine
 unmessaged id m = with_comm id (message 0 (comm_at m id)) m
@@ -49,25 +48,12 @@ uncounted m = with_waiting (with_polls 0 m.waiting) m
 unfoldable pub set_aside : ℕ → Answer → Machine → Machine
 set_aside waited (Wait id) m = elim (eqb id waited) [ true ↦ uncounted m | false ↦ none_waiting (unmessaged id m) ]
 set_aside waited (Code code) m = none_waiting m
-set_aside waited Done m = m
-set_aside waited Off m = m
-set_aside waited Bad m = m
-set_aside waited Stopped m = m
-set_aside waited Held m = m
-set_aside waited Denied m = m
-set_aside waited Idle m = m
+set_aside waited _ m = m
 
 -- the cell that the call waits for after an answer
 unfoldable pub now_waited : ℕ → Answer → ℕ
 now_waited waited (Wait id) = id
-now_waited waited (Code code) = waited
-now_waited waited Done = waited
-now_waited waited Off = waited
-now_waited waited Bad = waited
-now_waited waited Stopped = waited
-now_waited waited Held = waited
-now_waited waited Denied = waited
-now_waited waited Idle = waited
+now_waited waited _ = waited
 
 -- the machine that a poll met, with the cell cut off that its limit cuts off at this poll. A poll that is not obeyed cuts off none
 unfoldable pub cut_off_by : Answer → Machine → Machine

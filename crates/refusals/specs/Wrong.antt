@@ -2,7 +2,7 @@
 -- is false.
 use Rattle.std.specs.Prelude.{Bool, true, false, ℕ, eqb, pos}
 use Rattle.base.specs.Rules.{EPERM}
-use Rattle.machine_state.specs.declared.Event.TheVariants.{Call, Store, Fault, Exit, Poll, Malformed}
+use Rattle.machine_state.specs.declared.Event.TheVariants.{Call, Poll}
 use Rattle.machine_state.specs.declared.Answer.TheVariants.{Code}
 use Rattle.machine_state.specs.declared.Phase.TheVariants.{Loading}
 use Rattle.machine_state.specs.declared.Machine.{Machine}
@@ -20,11 +20,7 @@ unfoldable pub on_call : (Stepped → Bool) → (ℕ → ℕ → ℕ → Machine
 on_call test change (Call cpu code a1 a2) bytes m =
     let s = step (Call cpu code a1 a2) bytes m in
     elim (test s) [ true ↦ answered s.answer (change cpu code a1 m s.machine) | false ↦ s ]
-on_call test change (Store cpu word value) bytes m = step (Store cpu word value) bytes m
-on_call test change (Fault cpu) bytes m = step (Fault cpu) bytes m
-on_call test change (Exit cpu kind) bytes m = step (Exit cpu kind) bytes m
-on_call test change Poll bytes m = step Poll bytes m
-on_call test change Malformed bytes m = step Malformed bytes m
+on_call test change e bytes m = step e bytes m
 
 abbrev pub refused_call : Stepped → Bool
 refused_call s = is_negative s.answer
@@ -61,24 +57,16 @@ messages_another = on_call left_waiting (λ cpu code a1 before after. with_reque
 
 -- a poll that moves on stops the CPUs of the cell that it heard, though a later cell may deny
 unfoldable pub stops_heard : Manager
-stops_heard (Call cpu code a1 a2) bytes m = step (Call cpu code a1 a2) bytes m
-stops_heard (Store cpu word value) bytes m = step (Store cpu word value) bytes m
-stops_heard (Fault cpu) bytes m = step (Fault cpu) bytes m
-stops_heard (Exit cpu kind) bytes m = step (Exit cpu kind) bytes m
 stops_heard Poll bytes m =
     let s = step Poll bytes m in
     elim (left_waiting s) [ true ↦ answered s.answer (cpus_changed (cell_at m 1).cpus stop_cpu s.machine) | false ↦ s ]
-stops_heard Malformed bytes m = step Malformed bytes m
+stops_heard e bytes m = step e bytes m
 
 -- the poll that refuses cuts off another cell, too
 unfoldable pub cuts_off_another : Manager
-cuts_off_another (Call cpu code a1 a2) bytes m = step (Call cpu code a1 a2) bytes m
-cuts_off_another (Store cpu word value) bytes m = step (Store cpu word value) bytes m
-cuts_off_another (Fault cpu) bytes m = step (Fault cpu) bytes m
-cuts_off_another (Exit cpu kind) bytes m = step (Exit cpu kind) bytes m
 cuts_off_another Poll bytes m =
     let s = step Poll bytes m in elim (refused_call s) [ true ↦ answered s.answer (cell_cut_off 2 s.machine) | false ↦ s ]
-cuts_off_another Malformed bytes m = step Malformed bytes m
+cuts_off_another e bytes m = step e bytes m
 
 -- nothing is done, and the answer is 0 always
 unfoldable pub does_nothing : Manager

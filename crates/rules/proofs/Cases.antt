@@ -1,13 +1,9 @@
 -- The ways in which a step can go. A table ends with one of its rows or past all of them; a call that its table lets pass asks, and then waits for
 -- a cell, or is refused by a lock, or has its effect, after which it waits for a cell that it tells or ends with a code that is not negative.
 -- Each law is by the tests of its definition, and says: what holds of every way holds of the step. Assumes nothing.
-use mathlib.Core.Path.{◌≡◌, refl, sym, subst, ap}
-use mathlib.Core.Bool.{Bool, true, false, not, ◌&&◌, true≢false}
-use mathlib.Core.List.{List, [], ◌∷◌}
-use Prim.Native.Nat.{ℕ, ◌<◌, ◌%◌, ◌^◌}
-use borrow.Author.Tests.{ltb-true, eqb-true, not-false}
-use lib.Dec.{ltb, eqb}
-use lib.IntN.{ℤ, pos}
+use Rattle.std.proofs.Common.{◌≡◌, refl, sym, subst, ap, ◌∙◌, Bool, true, false, not, ◌&&◌, ◌||◌, true≢false, List, [], ◌∷◌, ℕ, ◌<◌, ◌%◌, ◌^◌, ltb-true, eqb-true, leb, ltb, eqb, ℤ, pos}
+use Rattle.std.proofs.lemmas.Bool.{and_parts, not-false, not-true, or_parts}
+use Rattle.std.proofs.Math.Bool.{and-true}
 use Rattle.base.specs.Lists.{any}
 use Rattle.base.specs.Rules.{Refusal, first_rule, EPERM}
 use Rattle.base.proofs.Rules.{by-rule, by-none}
@@ -22,9 +18,9 @@ use Rattle.machine_state.specs.declared.Answer.{Answer}
 use Rattle.machine_state.specs.declared.Answer.TheVariants.{Code, Wait, Done, Off, Bad, Stopped, Held, Denied, Idle}
 use Rattle.machine_state.specs.declared.Machine.{Machine}
 use Rattle.machine_state.specs.declared.Stepped.{Stepped}
-use Rattle.rules.specs.State.{root_id, live, comm_at, cell_ids, no_id, first, answered}
-use Rattle.rules.specs.Unobeyed.{unobeyed, is_obeyed}
-use Rattle.rules.specs.Effects.{effect, cell_cut_off}
+use Rattle.rules.specs.State.{root_id, live, cell_at, comm_at, cpu_at, state_at, cell_ids, no_id, first, is_final, failed, waits, with_comm, with_cpus, with_cpu, answered}
+use Rattle.rules.specs.Unobeyed.{held, unobeyed, is_obeyed}
+use Rattle.rules.specs.Effects.{effect, fail_cpu, all_failed, cell_failed, faulted, with_state, cell_cut_off}
 use Rattle.rules.specs.Create.{some_cell_locked, other_cell_locked, too_long, invalid, name_in_use, busy, free_id, no_room}
 use Rattle.rules.specs.Asking.{may_be_messaged, next_to_message, asks, tells, every_cell, is_destroy, asking, telling, wait_for, finished, end_code, tell, carry_out, none_to_ask, ask, consents, hear, cuts_off, hears_at, heard_at, still_waits, poll_cell, shutdown_request, reconfig_completed}
 use Rattle.rules.specs.Calls.{hypervisor_disable, cell_create, cell_start, cell_set_loadable, cell_destroy, ends, disable_call, create_call, target_call, call_by_code, call}
@@ -77,7 +73,7 @@ table-cases : (P : Stepped → Type 0) (m : Machine) (rs : List (Refusal Stepped
     → ((w : Answer) → is_unobeyed w ≡ true → applies rs ≡ true → P (answered w m))
     → (applies rs ≡ false → P otherwise)
     → P (first_rule rs otherwise)
-unfolding Words applies any
+unfolding Words applies
 table-cases P m [] otherwise ws f g = by-none P otherwise (g refl)
 table-cases P m (r ∷ rs) otherwise ws f g =
     by-rule P r rs otherwise
@@ -92,6 +88,43 @@ unfolding step is_obeyed applies
 step-cases P e bytes m f g =
     table-cases P m (unobeyed e m) (obeyed e bytes m) (words e m) (λ w u t. f w u (ap not t)) (λ t. g (ap not t))
 
+-- an obeyed event is one to which no row applies, row by row
+unfoldable pub NoneApplies : List (Refusal Stepped) → Type 0
+NoneApplies [] = Unit {0}
+NoneApplies (r ∷ rs) = (r.when ≡ false) × NoneApplies rs
+
+none-applies : (rs : List (Refusal Stepped)) → applies rs ≡ false → NoneApplies rs
+unfolding applies NoneApplies
+none-applies [] e = tt
+none-applies (r ∷ rs) e = let parts = or_parts r.when (applies rs) e in (parts.0, none-applies rs parts.1)
+
+pub no_row : (e : Event) (m : Machine) → is_obeyed e m ≡ true → NoneApplies (unobeyed e m)
+unfolding is_obeyed applies
+no_row e m o = none-applies (unobeyed e m) (not-true (applies (unobeyed e m)) o)
+
+-- "held": while a call waits, an obeyed event is of a CPU that is not root's
+pub not_root : (cpu : ℕ) (m : Machine) → waits m.waiting ≡ true → (held cpu m).when ≡ false → eqb (cpu_at m cpu).cell root_id ≡ false
+not_root cpu m w e = sym (and-true _) ∙ ap (λ (b : Bool). eqb (cpu_at m cpu).cell root_id && b) (sym w) ∙ e
+
+-- ---- a fault: its CPU is marked, and its cell, whose state was then not final, may have failed
+
+abbrev pub faulted_cpu : ℕ → Machine → Machine
+faulted_cpu cpu m = with_cpu cpu (fail_cpu (cpu_at m cpu)) m
+
+pub fault-cases : (P : Machine → Type 0) (cpu : ℕ) (m : Machine) → P (faulted_cpu cpu m)
+    → (is_final (state_at m (cpu_at m cpu).cell) ≡ false
+    → P (with_comm (cpu_at m cpu).cell (with_state failed (comm_at m (cpu_at m cpu).cell)) (faulted_cpu cpu m)))
+    → P (faulted cpu m)
+unfolding faulted cell_failed with_cpus
+fault-cases P cpu m p q =
+    by-test P (all && not (is_final (state_at m id))) _ _ (λ e. q (not-true (is_final (state_at m id)) (and_parts all (not (is_final (state_at m id))) e).1)) (λ e. p)
+  where
+    id : ℕ
+    id = (cpu_at m cpu).cell
+
+    all : Bool
+    all = not (eqb id root_id) && all_failed (cell_at m id).cpus (faulted_cpu cpu m).cpus
+
 -- ---- whom a call messages next
 
 -- a cell that is found passes the test
@@ -101,17 +134,13 @@ first_passes p [] h = absurd (true≢false (sym h))
 first_passes p (id ∷ ids) h =
     by-test (λ x. ltb x no_id ≡ true → p x ≡ true) (p id) id (first p ids) (λ e l. e) (λ e. first_passes p ids) h
 
-foremost : (a b c : Bool) → (a && b && c) ≡ true → a ≡ true
-foremost true b c h = refl
-foremost false b c h = h
-
 next-later : (among : ℕ → Bool) (after : ℕ) (m : Machine) → ltb (next_to_message among after m) no_id ≡ true → after < next_to_message among after m
 unfolding next_to_message
 next-later among after m h =
     let found = first (λ id. ltb after id && among id && may_be_messaged m id) cell_ids in
     ltb-true after found
-    (foremost (ltb after found) (among found) (may_be_messaged m found)
-    (first_passes (λ id. ltb after id && among id && may_be_messaged m id) cell_ids h))
+    (and_parts _ (among found) (and_parts _ (may_be_messaged m found)
+    (first_passes (λ id. ltb after id && among id && may_be_messaged m id) cell_ids h)).0).0
 
 -- ---- a call that tells
 
@@ -237,6 +266,32 @@ create-cases P cpu bytes m at_once goes_on =
     (λ d. by-rule P _ _ _ (λ e. at_once _)
     (λ e. by-rule P _ _ _ (λ e. at_once _)
     (λ f. by-none P _ (goes_on (record { unlocked = a; short = b; valid = c; unnamed = d; free = e; room = f }))))))))
+
+-- one of a CPU that is not root's ends at once: a code above 4 asks nobody
+pub others-cases : (P : Stepped → Type 0) (cpu code a1 a2 : ℕ) (bytes : List ℕ) (m : Machine) → eqb (cpu_at m cpu).cell root_id ≡ false
+    → ((z : ℤ) → P (ends z m)) → P (call cpu code a1 a2 bytes m)
+unfolding call call_by_code
+others-cases P cpu code a1 a2 bytes m other at_once =
+    by-rule P _ _ _ (λ e. at_once _)
+    (λ e. by-rule P _ _ _ (λ e. at_once _)
+    (λ e. by-none P _ (query (or_parts (leb code 4) (eqb code 6) (asked e)).0)))
+  where
+    asked : (not (eqb (cpu_at m cpu).cell root_id) && (leb code 4 || eqb code 6)) ≡ false → (leb code 4 || eqb code 6) ≡ false
+    asked e = ap (λ (b : Bool). not b && (leb code 4 || eqb code 6)) (sym other) ∙ e
+
+    low : {s : Stepped} (k : ℕ) → leb code 4 ≡ false → leb k 4 ≡ true → eqb code k ≡ true → P s
+    low k h l e = absurd (true≢false (sym l ∙ ap (λ (n : ℕ). leb n 4) (sym (eqb-true code k e)) ∙ h))
+
+    query : leb code 4 ≡ false → P (call_by_code cpu code a1 a2 bytes m)
+    query h =
+        by-rule P _ _ _ (low 0 h refl)
+        (λ e. by-rule P _ _ _ (low 1 h refl)
+        (λ e. by-rule P _ _ _ (low 2 h refl)
+        (λ e. by-rule P _ _ _ (low 3 h refl)
+        (λ e. by-rule P _ _ _ (low 4 h refl)
+        (λ e. by-rule P _ _ _ (λ e. at_once _)
+        (λ e. by-rule P _ _ _ (λ e. at_once _)
+        (λ e. by-rule P _ _ _ (λ e. at_once _) (λ e. by-none P _ (at_once _)))))))))
 
 pub call-cases : (P : Stepped → Type 0) (cpu code a1 a2 : ℕ) (bytes : List ℕ) (m : Machine) → Ways P cpu code a1 bytes m → P (call cpu code a1 a2 bytes m)
 unfolding call call_by_code disable_call

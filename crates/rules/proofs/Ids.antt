@@ -1,13 +1,8 @@
 -- Laws of sets of cell IDs and of searches through them: what an ID added or dropped leaves, and what the first of a list that passes a test
 -- is. A set of IDs is the number whose bits a test picks (`bit-number`); a search goes by induction on the list. Assumes nothing.
-use mathlib.Core.Path.{◌≡◌, refl, sym, ap, ◌∙◌}
-use mathlib.Core.Bool.{Bool, true, false, not, ◌&&◌, ◌||◌, and-false}
-use mathlib.Core.Logic.{◌⊎◌, inl, inr}
-use Prim.Native.Nat.{ℕ, zero, suc, ◌+◌, ◌≤◌, ◌<◌}
-use native.Mathlib.Decide.{ℕ_discrete}
-use native.Mathlib.Omega.{arith}
-use lib.Dec.{T, ltb, eqb, eqb→eq}
-use borrow.Author.Tests.{ltb-true, ltb-false}
+use Rattle.std.proofs.Common.{◌≡◌, refl, sym, ap, ◌∙◌, Bool, true, false, not, ◌&&◌, ◌||◌, ◌⊎◌, inl, inr, ℕ, zero, suc, ◌+◌, ◌≤◌, ◌<◌, arith, T, ltb, eqb, eqb→eq, ltb-true, ltb-false}
+use Rattle.std.proofs.Math.Bool.{and-false}
+use Rattle.std.proofs.Math.Decide.{ℕ_discrete}
 use Rattle.base.specs.Lists.{any, from}
 use Rattle.base.proofs.Tests.{is_true, is_false, holds, fails}
 use Rattle.cpu_set.specs.CpuSet.{bit}
@@ -69,11 +64,15 @@ pub record Found (p : ℕ → Bool) (k n id : ℕ) : Type 0 where
   pub high : id < k + n
 
 -- none of them does
-abbrev pub None : (ℕ → Bool) → ℕ → ℕ → Type 0
-None p k n = (id : ℕ) → k ≤ id → id < k + n → p id ≡ false
+abbrev pub NonePass : (ℕ → Bool) → ℕ → ℕ → Type 0
+NonePass p k n = (id : ℕ) → k ≤ id → id < k + n → p id ≡ false
+
+-- a search through them gives one that passes, or `no_id` where none does
+abbrev pub Search : (ℕ → Bool) → ℕ → ℕ → ℕ → Type 0
+Search p k n id = Found p k n id ⊎ (NonePass p k n × (id ≡ no_id))
 
 module _ (p : ℕ → Bool) where
-  none_more : (k n : ℕ) → p k ≡ false → None p (suc k) n → None p k (suc n)
+  none_more : (k n : ℕ) → p k ≡ false → NonePass p (suc k) n → NonePass p k (suc n)
   none_more k n e f id low high = go (ℕ_discrete id k)
     where
       go : Dec (id ≡ k) → p id ≡ false
@@ -84,22 +83,22 @@ module _ (p : ℕ → Bool) where
   later k n id f = record { passes = f.passes; low = omega (arith, f.low); high = omega (arith, f.high) }
 
   -- the first that passes, or none does
-  pub first-from : (k n : ℕ) → Found p k n (first p (from k n)) ⊎ (None p k n × (first p (from k n) ≡ no_id))
+  pub first-from : (k n : ℕ) → Search p k n (first p (from k n))
   unfolding first from
   first-from k zero = inr ((λ id low high. absurd (omega arith)), refl)
   first-from k (suc n) =
-      by-test (λ (x : ℕ). Found p k (suc n) x ⊎ (None p k (suc n) × (x ≡ no_id))) (p k) k (first p (from (suc k) n))
+      by-test (λ (x : ℕ). Search p k (suc n) x) (p k) k (first p (from (suc k) n))
       (λ e. inl (record { passes = e; low = omega arith; high = omega arith }))
       (λ e. more e (first-from (suc k) n))
     where
-      more : p k ≡ false → Found p (suc k) n (first p (from (suc k) n)) ⊎ (None p (suc k) n × (first p (from (suc k) n) ≡ no_id))
-          → Found p k (suc n) (first p (from (suc k) n)) ⊎ (None p k (suc n) × (first p (from (suc k) n) ≡ no_id))
+      more : p k ≡ false → Search p (suc k) n (first p (from (suc k) n))
+          → Search p k (suc n) (first p (from (suc k) n))
       more e (inl f) = inl (later k n _ f)
       more e (inr f) = inr (none_more k n e f.0, f.1)
 
   -- some passes, or none does
   pub any-from : (k n : ℕ) → any p (from k n) ≡ true → (id : ℕ) × Found p k n id
-  unfolding any from
+  unfolding from
   any-from k zero t = absurd (fails refl (holds t))
   any-from k (suc n) t = go (p k) refl t (λ r. any-from (suc k) n r)
     where
@@ -108,12 +107,12 @@ module _ (p : ℕ → Bool) where
       go true e t f = (k, record { passes = e; low = omega arith; high = omega arith })
       go false e t f = ((f t).0, later k n (f t).0 (f t).1)
 
-  pub any-from-false : (k n : ℕ) → any p (from k n) ≡ false → None p k n
-  unfolding any from
+  pub any-from-false : (k n : ℕ) → any p (from k n) ≡ false → NonePass p k n
+  unfolding from
   any-from-false k zero t = λ id low high. absurd (omega arith)
   any-from-false k (suc n) t = go (p k) refl t (any-from-false (suc k) n)
     where
-      go : (b : Bool) → p k ≡ b → (b || any p (from (suc k) n)) ≡ false → (any p (from (suc k) n) ≡ false → None p (suc k) n) → None p k (suc n)
+      go : (b : Bool) → p k ≡ b → (b || any p (from (suc k) n)) ≡ false → (any p (from (suc k) n) ≡ false → NonePass p (suc k) n) → NonePass p k (suc n)
       go true e t f = absurd (fails t tt)
       go false e t f = none_more k n e (f t)
 

@@ -1,3 +1,5 @@
 pub mod Ids
+pub mod SomeIds
 pub mod Cases
 pub mod Limit
+pub mod Places

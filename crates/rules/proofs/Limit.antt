@@ -1,12 +1,9 @@
 -- A cell without a reply limit is polled as if there were none: no poll is its last, and none is counted. Assumes nothing.
-use mathlib.Core.Bool.{Bool, true, false, not, ◌&&◌, ◌||◌}
-use mathlib.Core.Path.{◌≡◌, refl, sym, ap, ◌∙◌}
-use Prim.Native.Nat.{ℕ}
+use Rattle.std.proofs.Common.{Bool, true, false, not, ◌&&◌, ◌||◌, ◌≡◌, refl, sym, ap, ◌∙◌, ℕ, Some}
 use Rattle.cell_record.specs.declared.CellConfig.{CellConfig}
 use Rattle.machine_state.specs.declared.CallKind.{CallKind}
 use Rattle.machine_state.specs.declared.Stage.{Stage}
-use Rattle.machine_state.specs.declared.Waiting.{Waiting}
-use Rattle.machine_state.specs.declared.Waiting.TheVariants.{Pending}
+use Rattle.machine_state.specs.Machine.{Waiting}
 use Rattle.machine_state.specs.declared.Answer.TheVariants.{Wait}
 use Rattle.machine_state.specs.declared.Machine.{Machine}
 use Rattle.machine_state.specs.declared.Stepped.{Stepped}
@@ -20,10 +17,10 @@ module _ (kind : CallKind) (stage : Stage) (new : CellConfig) (m : Machine) wher
   polled b limit =
       elim (b || (not b && is_last_poll limit stage.polls)) [
         | true ↦ hear kind stage new (elim (not b && is_last_poll limit stage.polls) [ true ↦ cell_cut_off stage.cell m | false ↦ m ])
-        | false ↦ answered (Wait stage.cell) (with_waiting (with_polls (polls_after limit stage.polls) (Pending kind stage)) m)
+        | false ↦ answered (Wait stage.cell) (with_waiting (with_polls (polls_after limit stage.polls) (Some (kind, stage))) m)
       ]
 
-  pub unlimited : limit_at m stage.cell ≡ 0 → m.waiting ≡ Pending kind stage
+  pub unlimited : limit_at m stage.cell ≡ 0 → m.waiting ≡ Some (kind, stage)
       → poll_cell kind stage new m ≡ elim (is_heard (comm_at m stage.cell)) [ true ↦ hear kind stage new m | false ↦ answered (Wait stage.cell) m ]
   unfolding polled poll_cell hears_at heard_at cuts_off is_last_poll still_waits polls_after with_polls with_waiting
   unlimited none waits = ap (polled (is_heard (comm_at m stage.cell))) none ∙ go (is_heard (comm_at m stage.cell))

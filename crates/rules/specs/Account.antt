@@ -2,11 +2,11 @@
 -- call does, beside the machine's own way: it is fed the call once and keeps what it needs of it; then the replies, and the cells' records
 -- and states. It sees nothing else of the machine, and never the field that holds the waiting call. It is about a call that no refusal of
 -- its row has ended before anyone is asked.
-use Rattle.std.specs.Prelude.{Bool, true, false, not, ◌&&◌, ◌||◌, List, [], ◌∷◌, ℕ, ltb, eqb, ℤ, pos}
+use Rattle.std.specs.Prelude.{Bool, true, false, not, ◌&&◌, ◌||◌, List, [], ◌∷◌, ℕ, ltb, eqb, ℤ, pos, Option, None, Some}
 use Rattle.base.specs.Lists.{any}
 use Rattle.base.specs.Rules.{EPERM}
 use Rattle.machine_state.specs.declared.CallKind.{CallKind}
-use Rattle.machine_state.specs.declared.CallKind.TheVariants.{Disable, Create, Start, SetLoadable, Destroy}
+use Rattle.machine_state.specs.declared.CallKind.TheVariants.{Create}
 use Rattle.machine_state.specs.declared.Answer.{Answer}
 use Rattle.machine_state.specs.declared.Answer.TheVariants.{Code, Wait}
 use Rattle.rules.specs.State.{cell_ids, no_id, is_final, is_locked, running, failed}
@@ -26,14 +26,9 @@ pub data Place : Type 0 where
   Tells : ℕ → Place
   Ended : ℤ → Place
 
--- the cell that its limit cut off with the last event, if there was one
-pub data CutOff : Type 0 where
-  NoneCut : CutOff
-  WasCut : ℕ → CutOff
-
 -- the account: the call with its target (of Create the ID that it chose); where it stands; how many polls since its message have found nothing,
 -- counted where the cell has a limit; whether it moved there with the last event, and so messaged the cell that it waits for; whether the effect
--- came with that move; and which cell its limit cut off at that poll
+-- came with that move; and which cell its limit cut off at that poll, if it did
 pub record Account : Type 0 where
   pub kind : CallKind
   pub target : ℕ
@@ -41,18 +36,18 @@ pub record Account : Type 0 where
   pub polls : ℕ
   pub moved : Bool
   pub effect : Bool
-  pub cut : CutOff
+  pub cut : Option ℕ
 
 -- it moves to a place, with the effect on the way or without; the cell that it heard was cut off; or it stays where it is
 abbrev pub moves_to : CallKind → ℕ → Bool → Place → Account
 moves_to kind target effect place =
-    record { kind = kind; target = target; place = place; polls = 0; moved = true; effect = effect; cut = NoneCut }
+    record { kind = kind; target = target; place = place; polls = 0; moved = true; effect = effect; cut = None }
 
-abbrev pub cutting : CutOff → Account → Account
-cutting cut a = record { kind = a.kind; target = a.target; place = a.place; polls = a.polls; moved = a.moved; effect = a.effect; cut = cut }
+abbrev pub cutting : Option ℕ → Account → Account
+cutting cut a = record a { cut = cut }
 
 abbrev pub stays_with : ℕ → Account → Account
-stays_with polls a = record { kind = a.kind; target = a.target; place = a.place; polls = polls; moved = false; effect = false; cut = NoneCut }
+stays_with polls a = record a { polls = polls; moved = false; effect = false; cut = None }
 
 abbrev pub stays : Account → Account
 stays a = stays_with a.polls a
@@ -74,19 +69,13 @@ unused_id (id ∷ ids) shown = elim (any (λ (s : Shown). eqb s.id id) shown) [ 
 
 -- the cell that the call is about: of Create the new one
 unfoldable pub about_cell : CallKind → ℕ → List Shown → ℕ
-about_cell Disable target shown = target
 about_cell Create target shown = unused_id cell_ids shown
-about_cell Start target shown = target
-about_cell SetLoadable target shown = target
-about_cell Destroy target shown = target
+about_cell _ target shown = target
 
 -- "With none left to tell it ends with the new ID or 0"
 unfoldable pub last_code : CallKind → ℕ → ℤ
-last_code Disable target = pos 0
 last_code Create target = pos target
-last_code Start target = pos 0
-last_code SetLoadable target = pos 0
-last_code Destroy target = pos 0
+last_code _ target = pos 0
 
 -- "tell all remaining cells": Destroy's target is gone, and the cell that Create made, which is shut down, is not told
 abbrev pub remains : ℕ → ℕ → Bool
@@ -143,13 +132,13 @@ consents_by reply state = is_final state || eqb reply request_approved
 unfoldable pub failed_shown : ℕ → List Shown → List Shown
 failed_shown id [] = []
 failed_shown id (s ∷ ss) =
-    record { id = s.id; passive = s.passive; limit = s.limit; state = elim (eqb s.id id) [ true ↦ failed | false ↦ s.state ] } ∷ failed_shown id ss
+    record s { state = elim (eqb s.id id) [ true ↦ failed | false ↦ s.state ] } ∷ failed_shown id ss
 
 -- a cell that has shown neither reply nor final state: at the poll that its limit names it is cut off and heard as `cuts` says; else the account
 -- stays where it is, and counts the poll where the cell has a limit
 unfoldable pub unheard_at : ℕ → Account → List Shown → Account → Account
 unheard_at c a shown cuts =
-    elim (is_last_poll (limit_shown c shown) a.polls) [ true ↦ cutting (WasCut c) cuts | false ↦ stays_with (polls_after (limit_shown c shown) a.polls) a ]
+    elim (is_last_poll (limit_shown c shown) a.polls) [ true ↦ cutting (Some c) cuts | false ↦ stays_with (polls_after (limit_shown c shown) a.polls) a ]
 
 -- a poll, with the reply of the cell waited for, 0 where there is none: "a cell not heard keeps it as it is; a denial ends it, -1; else it
 -- moves on"; "for message 2 any value serves". An account that has ended stays ended

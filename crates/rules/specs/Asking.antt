@@ -5,10 +5,10 @@ use Rattle.base.specs.Rules.{EPERM}
 use Rattle.cell_record.specs.declared.CellConfig.{CellConfig}
 use Rattle.machine_state.specs.declared.CommRegion.{CommRegion}
 use Rattle.machine_state.specs.declared.CallKind.{CallKind}
-use Rattle.machine_state.specs.declared.CallKind.TheVariants.{Disable, Create, Start, SetLoadable, Destroy}
+use Rattle.machine_state.specs.declared.CallKind.TheVariants.{Disable, Create, Destroy}
 use Rattle.machine_state.specs.declared.Stage.{Stage}
-use Rattle.machine_state.specs.declared.Waiting.{Waiting}
-use Rattle.machine_state.specs.declared.Waiting.TheVariants.{NoCall, Pending}
+use Rattle.machine_state.specs.Machine.{Waiting}
+use Rattle.std.specs.Prelude.{None, Some}
 use Rattle.machine_state.specs.declared.Answer.TheVariants.{Code, Wait, Idle}
 use Rattle.machine_state.specs.declared.Machine.{Machine}
 use Rattle.machine_state.specs.declared.Stepped.{Stepped}
@@ -38,27 +38,20 @@ next_to_message among after m = first (λ id. ltb after id && among id && may_be
 unfoldable pub asks : CallKind → ℕ → ℕ → Bool
 asks Disable target id = true
 asks Create target id = false
-asks Start target id = eqb id target
-asks SetLoadable target id = eqb id target
-asks Destroy target id = eqb id target
+asks _ target id = eqb id target
 
 -- "Create and Destroy, after their effect, tell all remaining cells"
-unfoldable pub tells : CallKind → Bool
-tells Disable = false
+abbrev pub tells : CallKind → Bool
 tells Create = true
-tells Start = false
-tells SetLoadable = false
 tells Destroy = true
+tells _ = false
 
 abbrev pub every_cell : ℕ → Bool
 every_cell id = true
 
-unfoldable pub is_destroy : CallKind → Bool
-is_destroy Disable = false
-is_destroy Create = false
-is_destroy Start = false
-is_destroy SetLoadable = false
+abbrev pub is_destroy : CallKind → Bool
 is_destroy Destroy = true
+is_destroy _ = false
 
 -- "To message a cell: from becomes 0, then to becomes 1 (shutdown request) or 2 (reconfiguration completed)"
 unfoldable pub message : ℕ → CommRegion → CommRegion
@@ -74,19 +67,16 @@ telling target cell polls = record { target = target; cell = cell; telling = tru
 -- "message the next cell .. and wait for it"
 unfoldable pub wait_for : CallKind → Stage → ℕ → Machine → Stepped
 wait_for kind stage code m =
-    answered (Wait stage.cell) (with_waiting (Pending kind stage) (with_comm stage.cell (message code (comm_at m stage.cell)) m))
+    answered (Wait stage.cell) (with_waiting (Some (kind, stage)) (with_comm stage.cell (message code (comm_at m stage.cell)) m))
 
 -- the call ends with a code
 unfoldable pub finished : ℤ → Machine → Stepped
-finished code m = answered (Code code) (with_waiting NoCall m)
+finished code m = answered (Code code) (with_waiting None m)
 
 -- "the new ID or 0"; an ID is below 16
 unfoldable pub end_code : CallKind → ℕ → ℤ
-end_code Disable target = pos 0
 end_code Create target = pos (target % 2 ^ 31)
-end_code Start target = pos 0
-end_code SetLoadable target = pos 0
-end_code Destroy target = pos 0
+end_code _ target = pos 0
 
 -- move on while telling: "message the next cell to .. tell"; "With none left to tell it ends with the new ID or 0"
 unfoldable pub tell : CallKind → ℕ → ℕ → Machine → Stepped
@@ -147,8 +137,8 @@ polls_after limit polls = elim (eqb limit 0) [ true ↦ polls | false ↦ polls 
 
 -- the waiting call with another count
 unfoldable pub with_polls : ℕ → Waiting → Waiting
-with_polls polls NoCall = NoCall
-with_polls polls (Pending kind stage) = Pending kind (record { target = stage.target; cell = stage.cell; telling = stage.telling; polls = polls })
+with_polls polls None = None
+with_polls polls (Some (kind, stage)) = Some (kind, record stage { polls = polls })
 
 -- "If the L-th poll after a message finds neither reply nor final state"; "a reply seen at that poll wins"
 unfoldable pub cuts_off : Stage → Machine → Bool
@@ -164,7 +154,7 @@ heard_at stage m = elim (cuts_off stage m) [ true ↦ cell_cut_off stage.cell m 
 -- "a poll answered `wait C` for the same message changes that count and nothing else"
 unfoldable pub still_waits : CallKind → Stage → Machine → Machine
 still_waits kind stage m =
-    with_waiting (with_polls (polls_after (limit_at m stage.cell) stage.polls) (Pending kind stage)) m
+    with_waiting (with_polls (polls_after (limit_at m stage.cell) stage.polls) (Some (kind, stage))) m
 
 -- "A poll looks at the cell waited for. From = 0 and state not final: nothing changes, answer `wait C`. Otherwise it is heard"
 unfoldable pub poll_cell : CallKind → Stage → CellConfig → Machine → Stepped
@@ -173,10 +163,10 @@ poll_cell kind stage new m =
 
 -- a poll of the waiting call; where none waits the poll is not obeyed
 unfoldable pub poll : Waiting → CellConfig → Machine → Stepped
-poll NoCall new m = answered Idle m
-poll (Pending kind stage) new m = poll_cell kind stage new m
+poll None new m = answered Idle m
+poll (Some (kind, stage)) new m = poll_cell kind stage new m
 
 -- the machine on which a poll of the waiting call hears
 unfoldable pub heard_in : Waiting → Machine → Machine
-heard_in NoCall m = m
-heard_in (Pending kind stage) m = heard_at stage m
+heard_in None m = m
+heard_in (Some (kind, stage)) m = heard_at stage m

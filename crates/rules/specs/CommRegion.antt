@@ -1,13 +1,9 @@
 -- The communication region as its cell reads it, little-endian. Document 001, "Communication region layout" and "Platform Information for x86";
 -- document 01, "The machine": three words, and "a zero word, the PM timer address and the cell's number of CPUs".
-use Rattle.std.specs.Prelude.{Bool, true, false, not, ◌&&◌, List, [], ◌∷◌, ◌++◌, ℕ, zero, suc, ◌*◌, ◌/◌, ◌%◌, ltb, eqb, get_or}
+use Rattle.std.specs.Prelude.{Bool, true, false, not, ◌&&◌, List, [], ◌∷◌, ◌++◌, ℕ, zero, suc, ◌*◌, ◌/◌, ◌%◌, ltb, eqb, get_or, Option, None, Some}
 use Rattle.cpu_set.specs.CpuSet.{count}
 use Rattle.fields.specs.Fields.{u32}
 use Rattle.machine_state.specs.declared.CommRegion.{CommRegion}
-use Rattle.machine_state.specs.declared.RegionWord.{RegionWord}
-use Rattle.machine_state.specs.declared.RegionWord.TheVariants.{NoWord, Word}
-use Rattle.machine_state.specs.declared.RegionByte.{RegionByte}
-use Rattle.machine_state.specs.declared.RegionByte.TheVariants.{NoByte, Byte}
 use Rattle.machine_state.specs.declared.Machine.{Machine}
 use Rattle.rules.specs.State.{root_id, cell_at, comm_at, live}
 
@@ -29,8 +25,8 @@ unfoldable pub sees_region : ℕ → Machine → Bool
 sees_region id m = not (eqb id root_id) && live m id && (comm_at m id).mapped
 
 -- one of its 5 words, and one of its 20 bytes: what lies past them in its page is named by neither document
-unfoldable pub region_word : ℕ → ℕ → Machine → RegionWord
-region_word id word m = elim (sees_region id m && ltb word 5) [ true ↦ Word (u32 (4 * word) (shown_in id m)) | false ↦ NoWord ]
+unfoldable pub region_word : ℕ → ℕ → Machine → Option ℕ
+region_word id word m = elim (sees_region id m && ltb word 5) [ true ↦ Some (u32 (4 * word) (shown_in id m)) | false ↦ None ]
 
-unfoldable pub region_byte : ℕ → ℕ → Machine → RegionByte
-region_byte id offset m = elim (sees_region id m && ltb offset 20) [ true ↦ Byte (get_or (shown_in id m) offset 0) | false ↦ NoByte ]
+unfoldable pub region_byte : ℕ → ℕ → Machine → Option ℕ
+region_byte id offset m = elim (sees_region id m && ltb offset 20) [ true ↦ Some (get_or (shown_in id m) offset 0) | false ↦ None ]

@@ -25,7 +25,7 @@ bump i counters = set counters i ((get_or counters i 0 + 1) % 2 ^ 32)
 
 -- "An obeyed call or exit first adds one to its own counter and the total of that CPU": 0 is the total
 unfoldable pub count_exit : ℕ → Cpu → Cpu
-count_exit own p = record { cell = p.cell; stopped = p.stopped; failed = p.failed; counters = bump own (bump 0 p.counters) }
+count_exit own p = record p { counters = bump own (bump 0 p.counters) }
 
 -- the counter of each exit: 0 MMIO, 1 PIO, 2 IPI, 3 management come first, then calls
 abbrev pub exit_counter : ℕ → ℕ
@@ -41,13 +41,13 @@ counted own cpu m = with_cpu cpu (count_exit own (cpu_at m cpu)) m
 
 -- the words with another message, reply or state
 abbrev pub with_message : ℕ → CommRegion → CommRegion
-with_message value c = record { mapped = c.mapped; passive = c.passive; reply_limit = c.reply_limit; msg_to_cell = value; reply_from_cell = c.reply_from_cell; cell_state = c.cell_state }
+with_message value c = record c { msg_to_cell = value }
 
 abbrev pub with_reply : ℕ → CommRegion → CommRegion
-with_reply value c = record { mapped = c.mapped; passive = c.passive; reply_limit = c.reply_limit; msg_to_cell = c.msg_to_cell; reply_from_cell = value; cell_state = c.cell_state }
+with_reply value c = record c { reply_from_cell = value }
 
 abbrev pub with_state : ℕ → CommRegion → CommRegion
-with_state value c = record { mapped = c.mapped; passive = c.passive; reply_limit = c.reply_limit; msg_to_cell = c.msg_to_cell; reply_from_cell = c.reply_from_cell; cell_state = value }
+with_state value c = record c { cell_state = value }
 
 -- "store (any u32 to word 0, 1 or 2)"
 unfoldable pub store_word : ℕ → ℕ → CommRegion → CommRegion
@@ -62,7 +62,7 @@ stored cpu word value m = let cell = (cpu_at m cpu).cell in with_comm cell (stor
 
 -- "A fault marks the CPU failed; when all CPUs of a non-root cell are failed and its state is not final, state becomes 3"
 unfoldable pub fail_cpu : Cpu → Cpu
-fail_cpu p = record { cell = p.cell; stopped = p.stopped; failed = true; counters = p.counters }
+fail_cpu p = record p { failed = true }
 
 unfoldable pub all_failed : ℕ → List Cpu → Bool
 all_failed set cpus = all (λ k. not (member k set) || (cpu_in cpus k).failed) (up_to max_cpus)
@@ -91,11 +91,11 @@ cpus_changed set change m = with_cpus (change_cpus set change m.cpus) m
 
 -- Start: "CPUs running and unfailed"
 unfoldable pub start_cpu : Cpu → Cpu
-start_cpu p = record { cell = p.cell; stopped = false; failed = false; counters = p.counters }
+start_cpu p = record p { stopped = false; failed = false }
 
 -- Set Loadable: "CPUs stopped (failed marks stay)"; a cell that is cut off: "its CPUs stop"
 unfoldable pub stop_cpu : Cpu → Cpu
-stop_cpu p = record { cell = p.cell; stopped = true; failed = p.failed; counters = p.counters }
+stop_cpu p = record p { stopped = true }
 
 -- Create: "CPUs leave root, stopped, unfailed, counters zero". Destroy: "CPUs to root, running, unfailed, counters zero"
 abbrev pub given_to : ℕ → Bool → Cpu → Cpu
@@ -136,7 +136,7 @@ cell_created id new m =
 -- ---- Start, Set Loadable
 
 unfoldable pub with_phase : Phase → Cell → Cell
-with_phase phase c = record { phase = phase; name = c.name; cpus = c.cpus; region_count = c.region_count; regions = c.regions }
+with_phase phase c = record c { phase = phase }
 
 unfoldable pub in_phase : ℕ → Phase → Machine → Machine
 in_phase id phase m = with_cell id (with_phase phase (cell_at m id)) m

@@ -5,9 +5,9 @@ use Rattle.std.specs.Prelude.{Bool, true, false, ◌&&◌, List, [], ◌∷◌, 
 use Rattle.base.specs.Rules.{first_rule, ◌⇒◌}
 use Rattle.machine_state.specs.declared.CallKind.{CallKind}
 use Rattle.machine_state.specs.declared.Event.{Event}
-use Rattle.machine_state.specs.declared.Event.TheVariants.{Call, Store, Fault, Exit, Poll, Malformed}
+use Rattle.machine_state.specs.declared.Event.TheVariants.{Store, Poll}
 use Rattle.machine_state.specs.declared.Answer.{Answer}
-use Rattle.machine_state.specs.declared.Answer.TheVariants.{Code, Wait, Done, Off, Bad, Stopped, Held, Denied, Idle}
+use Rattle.machine_state.specs.declared.Answer.TheVariants.{Done}
 use Rattle.machine_state.specs.declared.Machine.{Machine}
 use Rattle.rules.specs.State.{comm_at, cpu_at, state_at, limit_at, cell_ids, live}
 use Rattle.rules.specs.Calls.{hypervisor_disable, cell_create, cell_start, cell_set_loadable}
@@ -45,9 +45,7 @@ kind_of_code code =
 unfoldable pub target_of : CallKind → ℕ → ℕ
 target_of CallKind.Disable a1 = 0
 target_of CallKind.Create a1 = 0
-target_of CallKind.Start a1 = a1
-target_of CallKind.SetLoadable a1 = a1
-target_of CallKind.Destroy a1 = a1
+target_of _ a1 = a1
 
 unfoldable pub watched_call : ℕ → ℕ → Machine → Watched
 watched_call code a1 m = record { account = begun (kind_of_code code) (target_of (kind_of_code code) a1) (shown_by m); reply = 0 }
@@ -63,15 +61,8 @@ watched_other reply w = record { account = stays w.account; reply = reply }
 
 -- an obeyed store
 unfoldable pub is_done : Answer → Bool
-is_done (Code code) = false
-is_done (Wait cell) = false
 is_done Done = true
-is_done Off = false
-is_done Bad = false
-is_done Stopped = false
-is_done Held = false
-is_done Denied = false
-is_done Idle = false
+is_done _ = false
 
 -- a store to `from` (word 1) of the cell waited for, by a CPU of it
 unfoldable pub watched_store : ℕ → ℕ → ℕ → Answer → Machine → Watched → Watched
@@ -83,9 +74,6 @@ watched_store cpu word value answer m w =
 
 -- one event of a run while the call waits: its machine before it, the event and its answer
 unfoldable pub watched : Event → Answer → Machine → Watched → Watched
-watched (Call cpu code a1 a2) answer m w = watched_other w.reply w
 watched (Store cpu word value) answer m w = watched_store cpu word value answer m w
-watched (Fault cpu) answer m w = watched_other w.reply w
-watched (Exit cpu kind) answer m w = watched_other w.reply w
 watched Poll answer m w = watched_poll w m
-watched Malformed answer m w = watched_other w.reply w
+watched _ answer m w = watched_other w.reply w

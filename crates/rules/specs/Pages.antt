@@ -7,9 +7,9 @@ use Rattle.regions.specs.declared.MemRegion.{MemRegion}
 use Rattle.regions.specs.Regions.{flag, read_flag, write_flag, execute_flag, comm, loadable, shared, no_region}
 use Rattle.system_record.specs.SystemRecord.{boot_regions}
 use Rattle.machine_state.specs.declared.Phase.{Phase}
-use Rattle.machine_state.specs.declared.Phase.TheVariants.{Suspended, Loading, Started}
+use Rattle.machine_state.specs.declared.Phase.TheVariants.{Loading}
 use Rattle.machine_state.specs.declared.Power.{Power}
-use Rattle.machine_state.specs.declared.Power.TheVariants.{Unbooted, On, Disabled}
+use Rattle.machine_state.specs.declared.Power.TheVariants.{Unbooted}
 use Rattle.machine_state.specs.declared.PhysPage.{PhysPage}
 use Rattle.machine_state.specs.declared.CellPage.{CellPage}
 use Rattle.machine_state.specs.declared.Access.{Access}
@@ -33,10 +33,9 @@ has_virt p r = has_page r.virt r.size p.0
 -- ---- owners
 
 -- "Before boot (not after Disable)"
-unfoldable pub has_booted : Power → Bool
+abbrev pub has_booted : Power → Bool
 has_booted Unbooted = false
-has_booted On = true
-has_booted Disabled = true
+has_booted _ = true
 
 -- "the hypervisor": its memory of the boot record
 unfoldable pub hypervisor_has : PhysPage → Machine → Bool
@@ -70,21 +69,18 @@ owner_of p m =
 -- ---- what a cell may touch
 
 -- "loadable pages of a cell in loading"
-unfoldable pub is_loading : Phase → Bool
-is_loading Suspended = false
+abbrev pub is_loading : Phase → Bool
 is_loading Loading = true
-is_loading Started = false
+is_loading _ = false
 
 unfoldable pub loads : PhysPage → Machine → ℕ → Bool
 loads p m id = live m id && is_loading (cell_at m id).phase && any (λ r. has_phys p r && loadable r) (regions_at m id)
 
 -- "boot pages it owns, shared pages"
-unfoldable pub open_to_root : Owner → Bool
-open_to_root Owner.Hypervisor = false
-open_to_root (Owner.Cell id) = false
+abbrev pub open_to_root : Owner → Bool
 open_to_root Owner.Shared = true
 open_to_root Owner.Root = true
-open_to_root Owner.Nobody = false
+open_to_root _ = false
 
 -- "Root may touch boot pages it owns, shared pages, and loadable pages of a cell in loading". Loadable and shared regions lie in boot regions
 unfoldable pub root_may_touch : PhysPage → Machine → Bool
@@ -124,8 +120,7 @@ cell_mapping regions p = mapped_by (region_for p regions) p
 -- root maps no page that it may not touch
 unfoldable pub if_touchable : Machine → Mapping → Mapping
 if_touchable m (Page q access) = elim (root_may_touch q m) [ true ↦ Page q access | false ↦ Unmapped ]
-if_touchable m Comm = Unmapped
-if_touchable m Unmapped = Unmapped
+if_touchable m _ = Unmapped
 
 -- "root's mapping and flags come from the boot region"
 unfoldable pub root_mapping : CellPage → Machine → Mapping

@@ -3,7 +3,7 @@
 use Rattle.std.specs.Prelude.{◌≡◌, Bool, true, false, List, [], ◌∷◌, ℕ, pos}
 use Rattle.system_record.specs.SystemRecord.{boot_answer}
 use Rattle.machine_state.specs.declared.Event.{Event}
-use Rattle.machine_state.specs.declared.Event.TheVariants.{Call, Store, Fault, Exit, Poll, Malformed}
+use Rattle.machine_state.specs.declared.Event.TheVariants.{Poll}
 use Rattle.machine_state.specs.declared.Answer.{Answer}
 use Rattle.machine_state.specs.declared.Machine.{Machine}
 use Rattle.machine_state.specs.declared.Stepped.{Stepped}
@@ -15,13 +15,9 @@ pub record Line : Type 0 where
   pub bytes : List ℕ
 
 -- the event is a poll
-unfoldable pub is_poll : Event → Bool
-is_poll (Call cpu code a1 a2) = false
-is_poll (Store cpu word value) = false
-is_poll (Fault cpu) = false
-is_poll (Exit cpu kind) = false
+abbrev pub is_poll : Event → Bool
 is_poll Poll = true
-is_poll Malformed = false
+is_poll _ = false
 
 -- what answers an event and gives the next machine; `Step.step` is ours
 abbrev pub Manager : Type 0

@@ -1,13 +1,12 @@
 -- The machine's terms. Document 01, "The machine": live and active cells, states, a CPU's owner; and the machine with another part.
-use Rattle.std.specs.Prelude.{Bool, true, false, not, ◌&&◌, ◌||◌, List, [], ◌∷◌, ℕ, ltb, eqb, set, take}
+use Rattle.std.specs.Prelude.{Bool, true, false, not, ◌&&◌, ◌||◌, List, [], ◌∷◌, ℕ, ltb, eqb, set, take, Option, None, Some}
 use Rattle.base.specs.Lists.{from}
 use Rattle.cpu_set.specs.CpuSet.{bit, member, number_of}
 use Rattle.regions.specs.declared.MemRegion.{MemRegion}
 use Rattle.machine_state.specs.declared.Cpu.{Cpu}
 use Rattle.machine_state.specs.declared.CommRegion.{CommRegion}
 use Rattle.machine_state.specs.declared.Cell.{Cell}
-use Rattle.machine_state.specs.declared.Waiting.{Waiting}
-use Rattle.machine_state.specs.declared.Waiting.TheVariants.{NoCall, Pending}
+use Rattle.machine_state.specs.Machine.{Waiting}
 use Rattle.machine_state.specs.declared.Power.{Power}
 use Rattle.machine_state.specs.declared.Answer.{Answer}
 use Rattle.machine_state.specs.declared.Machine.{Machine}
@@ -58,6 +57,10 @@ unfoldable pub first : (ℕ → Bool) → List ℕ → ℕ
 first p [] = no_id
 first p (id ∷ ids) = elim (p id) [ true ↦ id | false ↦ first p ids ]
 
+-- the cell with this number; none where the number is no cell's
+unfoldable pub some_id : ℕ → Option ℕ
+some_id id = elim (ltb id no_id) [ true ↦ Some id | false ↦ None ]
+
 -- a set of IDs has `id`; the set of the IDs that a test picks
 unfoldable pub has_id : ℕ → ℕ → Bool
 has_id ids id = elim (ltb id max_cells) [ true ↦ bit id ids | false ↦ false ]
@@ -105,115 +108,40 @@ cpu_owner m cpu = or_root (first (named_by m cpu) cell_ids)
 -- ---- the waiting call
 
 -- a call waits
-unfoldable pub waits : Waiting → Bool
-waits NoCall = false
-waits (Pending kind stage) = true
+abbrev pub waits : Waiting → Bool
+waits None = false
+waits (Some call) = true
+
+-- the cell that it waits for, root where no call waits
+unfoldable pub waited_for : Waiting → ℕ
+waited_for None = root_id
+waited_for (Some (kind, stage)) = stage.cell
 
 -- ---- the machine with another part
 
 unfoldable pub with_waiting : Waiting → Machine → Machine
-with_waiting waiting m = record {
-  power = m.power;
-  system = m.system;
-  pool_used = m.pool_used;
-  live_ids = m.live_ids;
-  root_cpus = m.root_cpus;
-  cells = m.cells;
-  comms = m.comms;
-  cpus = m.cpus;
-  waiting = waiting;
-}
+with_waiting waiting m = record m { waiting = waiting }
 
 unfoldable pub with_power : Power → Machine → Machine
-with_power power m = record {
-  power = power;
-  system = m.system;
-  pool_used = m.pool_used;
-  live_ids = m.live_ids;
-  root_cpus = m.root_cpus;
-  cells = m.cells;
-  comms = m.comms;
-  cpus = m.cpus;
-  waiting = m.waiting;
-}
+with_power power m = record m { power = power }
 
 unfoldable pub with_pool : ℕ → Machine → Machine
-with_pool pages m = record {
-  power = m.power;
-  system = m.system;
-  pool_used = pages;
-  live_ids = m.live_ids;
-  root_cpus = m.root_cpus;
-  cells = m.cells;
-  comms = m.comms;
-  cpus = m.cpus;
-  waiting = m.waiting;
-}
+with_pool pages m = record m { pool_used = pages }
 
 unfoldable pub with_ids : ℕ → Machine → Machine
-with_ids ids m = record {
-  power = m.power;
-  system = m.system;
-  pool_used = m.pool_used;
-  live_ids = ids;
-  root_cpus = m.root_cpus;
-  cells = m.cells;
-  comms = m.comms;
-  cpus = m.cpus;
-  waiting = m.waiting;
-}
+with_ids ids m = record m { live_ids = ids }
 
 unfoldable pub with_root_cpus : ℕ → Machine → Machine
-with_root_cpus cpus m = record {
-  power = m.power;
-  system = m.system;
-  pool_used = m.pool_used;
-  live_ids = m.live_ids;
-  root_cpus = cpus;
-  cells = m.cells;
-  comms = m.comms;
-  cpus = m.cpus;
-  waiting = m.waiting;
-}
+with_root_cpus cpus m = record m { root_cpus = cpus }
 
 unfoldable pub with_cell : ℕ → Cell → Machine → Machine
-with_cell id c m = record {
-  power = m.power;
-  system = m.system;
-  pool_used = m.pool_used;
-  live_ids = m.live_ids;
-  root_cpus = m.root_cpus;
-  cells = set m.cells id c;
-  comms = m.comms;
-  cpus = m.cpus;
-  waiting = m.waiting;
-}
+with_cell id c m = record m { cells = set m.cells id c }
 
 unfoldable pub with_comm : ℕ → CommRegion → Machine → Machine
-with_comm id words m = record {
-  power = m.power;
-  system = m.system;
-  pool_used = m.pool_used;
-  live_ids = m.live_ids;
-  root_cpus = m.root_cpus;
-  cells = m.cells;
-  comms = set m.comms id words;
-  cpus = m.cpus;
-  waiting = m.waiting;
-}
+with_comm id words m = record m { comms = set m.comms id words }
 
 unfoldable pub with_cpus : List Cpu → Machine → Machine
-with_cpus cpus m = record {
-  power = m.power;
-  system = m.system;
-  pool_used = m.pool_used;
-  live_ids = m.live_ids;
-  root_cpus = m.root_cpus;
-  cells = m.cells;
-  comms = m.comms;
-  cpus = cpus;
-  waiting = m.waiting;
-}
+with_cpus cpus m = record m { cpus = cpus }
 
 abbrev pub with_cpu : ℕ → Cpu → Machine → Machine
 with_cpu cpu p m = with_cpus (set m.cpus cpu p) m

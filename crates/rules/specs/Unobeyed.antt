@@ -5,7 +5,7 @@ use Rattle.base.specs.Lists.{any}
 use Rattle.base.specs.Rules.{Refusal, ◌⇒◌}
 use Rattle.cpu_set.specs.CpuSet.{member}
 use Rattle.machine_state.specs.declared.Power.{Power}
-use Rattle.machine_state.specs.declared.Power.TheVariants.{Unbooted, On, Disabled}
+use Rattle.machine_state.specs.declared.Power.TheVariants.{On}
 use Rattle.machine_state.specs.declared.Event.{Event}
 use Rattle.machine_state.specs.declared.Event.TheVariants.{Call, Store, Fault, Exit, Poll, Malformed}
 use Rattle.machine_state.specs.declared.Answer.TheVariants.{Off, Bad, Stopped, Held, Denied, Idle}
@@ -14,10 +14,9 @@ use Rattle.machine_state.specs.declared.Stepped.{Stepped}
 use Rattle.rules.specs.State.{root_id, boot_cpu_set, comm_at, cpu_at, is_final, waits, answered}
 
 -- "off | not booted, or after Disable succeeded"
-unfoldable pub is_on : Power → Bool
-is_on Unbooted = false
+abbrev pub is_on : Power → Bool
 is_on On = true
-is_on Disabled = false
+is_on _ = false
 
 abbrev pub off : Machine → Refusal Stepped
 off m = not (is_on m.power) ⇒ answered Off m

@@ -1,12 +1,7 @@
 -- The call itself: one that is left waiting is root's and goes as its account begins, on the machine with its caller counted, which shows the
 -- same cells. The machine that it leaves follows the account. Assumes nothing.
-use mathlib.Core.Bool.{Bool, true, false, not, true≢false, false≢true}
-use mathlib.Core.Path.{◌≡◌, refl, sym, ap, ◌∙◌, subst}
-use mathlib.Core.List.{List, [], ◌∷◌}
-use Prim.Native.Nat.{ℕ}
-use borrow.Author.Tests.{eqb-true, not-false}
-use lib.Dec.{eqb}
-use lib.ListN.{length-set}
+use Rattle.std.proofs.Common.{Bool, true, false, not, true≢false, ◌≡◌, refl, sym, ap, ◌∙◌, subst, List, [], ◌∷◌, ℕ, eqb-true, eqb, length-set}
+use Rattle.std.proofs.lemmas.Bool.{false≢true, not-false}
 use Rattle.cell_record.specs.declared.CellConfig.{CellConfig}
 use Rattle.cell_record.specs.CellRecord.{cell_of}
 use Rattle.machine_state.specs.declared.CallKind.{CallKind}
@@ -23,7 +18,7 @@ use Rattle.rules.specs.Step.{obeyed, step}
 use Rattle.rules.specs.Account.{Shown, Account, Place, Asks, Tells, Ended, begun, about_cell, answer_at, ended_at}
 use Rattle.rules.specs.Observer.{watched_call, shown_from, shown_by, kind_of_code, target_of}
 use Rattle.rules.specs.Run.{happens}
-use Rattle.rules.proofs.Cases.{step-cases}
+use Rattle.rules.proofs.Cases.{NoneApplies, no_row, step-cases}
 use Rattle.rules.specs.Answers.{is_wait}
 use Rattle.waiting.specs.Steps.{CallLine, call_line, account, at_call, counted_for, move_of}
 use Rattle.waiting.specs.Demand3.{LeftWaiting}
@@ -31,7 +26,7 @@ use Rattle.waiting.proofs.Machines.{AllWords, AllCpus, NoneWoken}
 use Rattle.waiting.proofs.Moves.{waiting_of, step_for, AtPlace}
 use Rattle.waiting.proofs.Calls.{other-ends, Began, call-left}
 use Rattle.waiting.proofs.Kept.{kept-counted, owner-same}
-use Rattle.waiting.proofs.Others.{word-quiet, rows, no_row}
+use Rattle.waiting.proofs.Others.{word-quiet}
 use Rattle.waiting.proofs.Went.{Went, ask_ahead, ask-went}
 use Rattle.waiting.proofs.Follows.{Arrives, arrives-before, moved-follows, has-reply}
 use Rattle.waiting.proofs.Own.{OwnStep, own-step, cleared}
@@ -56,9 +51,9 @@ unfolding IfWait
 obey c m o t = record { on = not-false (is_on m.power) o; same = refl }
 
 call-obeyed : (c : CallLine) (m : Machine) → IfWait c m (step (Call c.cpu c.code c.a1 c.a2) c.bytes m)
-unfolding obeyed unobeyed
+unfolding obeyed unobeyed NoneApplies
 call-obeyed c m =
-    step-cases (IfWait c m) e c.bytes m (λ w u o. word-passes c m w (word-quiet w u).0) (λ o. obey c m (rows _ _ (no_row e m o)).0)
+    step-cases (IfWait c m) e c.bytes m (λ w u o. word-passes c m w (word-quiet w u).0) (λ o. obey c m (no_row e m o).0)
   where
     e : Event
     e = Call c.cpu c.code c.a1 c.a2

@@ -1,12 +1,8 @@
 -- The bound. Every message leaves one cell of W less to come. With a number of polls due to each cell, they are spent after the sum of those numbers:
 -- that is for every premise that keeps them due. Assumes nothing.
-use mathlib.Core.Bool.{Bool, true, false, not, ◌&&◌, and-false}
-use mathlib.Core.Path.{◌≡◌, sym, ap, ap₂, ◌∙◌, subst}
-use mathlib.Core.List.{List, [], ◌∷◌}
-use Prim.Native.Nat.{ℕ, suc, ◌+◌, ◌≤◌, ◌<◌}
-use native.Mathlib.Omega.{arith}
-use borrow.Author.Tests.{leb-false, ne_eqb}
-use lib.Dec.{leb, eqb}
+use Rattle.std.proofs.Common.{Bool, true, false, not, ◌&&◌, ◌≡◌, sym, ap, ap₂, ◌∙◌, subst, List, [], ◌∷◌, ℕ, suc, ◌+◌, ◌≤◌, ◌<◌, arith, leb-false, ne_eqb, leb}
+use Rattle.std.proofs.lemmas.Bool.{and_parts, or_parts}
+use Rattle.std.proofs.Math.Bool.{and-false}
 use Rattle.machine_state.specs.declared.Machine.{Machine}
 use Rattle.rules.specs.State.{no_id, limit_at}
 use Rattle.rules.specs.Step.{step}
@@ -16,7 +12,7 @@ use Rattle.rules.specs.Run.{Line, is_poll}
 use Rattle.waiting.specs.Steps.{Moment, account, account_ended, next, moment_after, shows, waited_limit, polls_in}
 use Rattle.waiting.specs.Demand3.{in_w, sum_below}
 use Rattle.waiting.proofs.Shown.{limit-shown, live-lt}
-use Rattle.waiting.proofs.Machines.{NoneWoken, and-fst, and-snd, or_snd}
+use Rattle.waiting.proofs.Machines.{NoneWoken}
 use Rattle.waiting.proofs.Moves.{Heeds, AtPlace}
 use Rattle.waiting.proofs.Went.{to_come}
 use Rattle.waiting.proofs.Follows.{may-live}
@@ -55,7 +51,7 @@ module _ (a : Account) (met : Machine) where
   unfolding left
   left_less due m before place w s =
       sum_less no_id (left place) (left before) due (waited_at place)
-      (λ id e. ap₂ (λ (x y : Bool). x && y) (and-fst (in_w a met id) _ e) (s.rest id (and-snd (in_w a met id) _ e)))
+      (λ id e. ap₂ (λ (x y : Bool). x && y) ((and_parts (in_w a met id) _ e).0) (s.rest id ((and_parts (in_w a met id) _ e).1)))
       (live-lt m (waited_at place) (may-live m (waited_at place) s.may))
       (ap₂ (λ (x y : Bool). x && y) (in-w a met m place _ w s) s.came)
       (ap (λ (b : Bool). in_w a met (waited_at place) && b) s.out ∙ and-false (in_w a met (waited_at place)))
@@ -107,7 +103,7 @@ module _ (a : Account) (met : Machine) where
       past x y = omega (arith, x, y)
 
       last : is_last_poll (limit now) (account now).polls ≡ false
-      last = ap (λ (n : ℕ). is_last_poll n (account now).polls) (sym (limit_is now c)) ∙ or_snd (shows now) _ f
+      last = ap (λ (n : ℕ). is_last_poll n (account now).polls) (sym (limit_is now c)) ∙ (or_parts (shows now) _ f).1
 
       no_last : leb (limit now) ((account now).polls + 1) ≡ false
       no_last = sym (ap (λ (b : Bool). not b && leb (limit now) ((account now).polls + 1)) (ne_eqb (limit now) 0 (λ q. omega (arith, low, q)))) ∙ last

@@ -1,34 +1,25 @@
 -- A call that is left waiting is root's, and goes as the account begins: every other row of its table ends it with a code. A call of a CPU that
--- is not root's ends at once. Both go through the tables of calls row by row. Assumes nothing.
-use mathlib.Core.Bool.{Bool, true, false, not, ◌&&◌, ◌||◌, true≢false, false≢true}
-use mathlib.Core.Path.{◌≡◌, refl, sym, ap, ◌∙◌, subst}
-use mathlib.Core.Logic.{◌⊎◌, inl, inr}
-use mathlib.Core.List.{List}
-use Prim.Native.Nat.{ℕ, ◌<◌}
-use native.Mathlib.Omega.{arith}
-use borrow.Author.Tests.{eqb-true, eqb-false}
-use lib.Dec.{leb, eqb}
-use lib.IntN.{ℤ}
+-- is not root's ends at once. Assumes nothing.
+use Rattle.std.proofs.Common.{Bool, true, false, not, ◌≡◌, refl, sym, ap, ◌∙◌, subst, inl, inr, List, ℕ, ◌<◌, arith, eqb, ℤ}
+use Rattle.std.proofs.lemmas.Bool.{eqb-false, false≢true, or_parts}
 use Rattle.base.specs.Rules.{first_rule}
-use Rattle.base.proofs.Rules.{by-rule, by-none}
 use Rattle.cell_record.specs.declared.CellConfig.{CellConfig}
 use Rattle.cell_record.specs.CellRecord.{cell_of}
 use Rattle.machine_state.specs.declared.CallKind.{CallKind}
-use Rattle.machine_state.specs.declared.CallKind.TheVariants as CallKind
 use Rattle.machine_state.specs.declared.Answer.TheVariants.{Code}
 use Rattle.machine_state.specs.declared.Machine.{Machine}
 use Rattle.machine_state.specs.declared.Stepped.{Stepped}
 use Rattle.rules.specs.State.{cell_ids, no_id, first, live, cpu_at, answered}
 use Rattle.rules.specs.Create.{free_id, no_room}
 use Rattle.rules.specs.Asking.{ask}
-use Rattle.rules.specs.Calls.{call_by_code, call}
+use Rattle.rules.specs.Calls.{call}
 use Rattle.rules.specs.Account.{begun, about_cell, ask_on}
 use Rattle.rules.specs.Observer.{shown_by, kind_of_code, target_of}
-use Rattle.rules.proofs.Ids.{Found, None, first-from}
-use Rattle.rules.proofs.Cases.{MayTarget, call-cases}
+use Rattle.rules.proofs.Ids.{Search, first-from}
+use Rattle.rules.proofs.Cases.{MayTarget, others-cases, call-cases}
 use Rattle.rules.specs.Answers.{is_wait}
 use Rattle.waiting.proofs.Shown.{free-shown, live-lt}
-use Rattle.waiting.proofs.Machines.{AllWords, or_fst}
+use Rattle.waiting.proofs.Machines.{AllWords}
 use Rattle.waiting.proofs.Moves.{step_for, ask-moves}
 
 -- ---- a call of a CPU that is not root's
@@ -38,36 +29,9 @@ pub record Ends (m : Machine) (s : Stepped) : Type 0 where
   pub code : ℤ
   pub same : s ≡ answered (Code code) m
 
-ends_with : (z : ℤ) (m : Machine) → Ends m (answered (Code z) m)
-ends_with z m = record { code = z; same = refl }
-
 module _ (cpu code a1 a2 : ℕ) (bytes : List ℕ) (m : Machine) where
-  -- a code above 4 asks nobody
-  query-ends : leb code 4 ≡ false → Ends m (call_by_code cpu code a1 a2 bytes m)
-  unfolding call_by_code
-  query-ends h =
-      by-rule (Ends m) _ _ _ (λ e. low 0 refl e)
-      (λ _. by-rule (Ends m) _ _ _ (λ e. low 1 refl e)
-      (λ _. by-rule (Ends m) _ _ _ (λ e. low 2 refl e)
-      (λ _. by-rule (Ends m) _ _ _ (λ e. low 3 refl e)
-      (λ _. by-rule (Ends m) _ _ _ (λ e. low 4 refl e)
-      (λ _. by-rule (Ends m) _ _ _ (λ e. ends_with _ m)
-      (λ _. by-rule (Ends m) _ _ _ (λ e. ends_with _ m)
-      (λ _. by-rule (Ends m) _ _ _ (λ e. ends_with _ m)
-      (λ _. by-none (Ends m) _ (ends_with _ m)))))))))
-    where
-      low : {s : Stepped} (k : ℕ) → leb k 4 ≡ true → eqb code k ≡ true → Ends m s
-      low k l e = absurd (true≢false (sym l ∙ ap (λ (n : ℕ). leb n 4) (sym (eqb-true code k e)) ∙ h))
-
   pub other-ends : eqb (cpu_at m cpu).cell 0 ≡ false → Ends m (call cpu code a1 a2 bytes m)
-  unfolding call
-  other-ends h =
-      by-rule (Ends m) _ _ _ (λ e. ends_with _ m)
-      (λ _. by-rule (Ends m) _ _ _ (λ e. ends_with _ m)
-      (λ e. by-none (Ends m) _ (query-ends (or_fst (leb code 4) (eqb code 6) (asked e)))))
-    where
-      asked : (not (eqb (cpu_at m cpu).cell 0) && (leb code 4 || eqb code 6)) ≡ false → (leb code 4 || eqb code 6) ≡ false
-      asked e = ap (λ (b : Bool). not b && (leb code 4 || eqb code 6)) (sym h) ∙ e
+  other-ends h = others-cases (Ends m) cpu code a1 a2 bytes m h (λ z. record { code = z; same = refl })
 
 -- ---- a call that is left waiting
 
@@ -98,7 +62,7 @@ free-lt m e = go (first-from (λ id. not (live m id)) 1 15)
     free : ℕ → Bool
     free id = not (live m id)
 
-    go : Found free 1 15 (first free cell_ids) ⊎ (None free 1 15 × (first free cell_ids ≡ no_id)) → first free cell_ids < 16
+    go : Search free 1 15 (first free cell_ids) → first free cell_ids < 16
     go (inl f) = omega (arith, f.high)
     go (inr f) = absurd (eqb-false (free_id m) no_id e f.1)
 
@@ -121,7 +85,7 @@ module _ (cpu code a1 a2 : ℕ) (bytes : List ℕ) (m : Machine) (h : AllWords m
         at_once = λ z. code-left (kind_of_code code) (target_of (kind_of_code code) a1) new m z;
         disables = λ e. by_code 0 _ (ask-left CallKind.Disable 0 0 new m h (omega arith) refl) e;
         creates = λ e may. by_code 1 _
-            (ask-left CallKind.Create 0 (free_id m) new m h (free-lt m (or_fst (eqb (free_id m) no_id) _ may.room)) (free-shown m)) e;
+            (ask-left CallKind.Create 0 (free_id m) new m h (free-lt m ((or_parts (eqb (free_id m) no_id) _ may.room).0)) (free-shown m)) e;
         starts = λ e may. by_code 2 _ (ask-left CallKind.Start a1 a1 new m h (target-lt CallKind.Start may) refl) e;
         loads = λ e may. by_code 3 _ (ask-left CallKind.SetLoadable a1 a1 new m h (target-lt CallKind.SetLoadable may) refl) e;
         destroys = λ e may. by_code 4 _ (ask-left CallKind.Destroy a1 a1 new m h (target-lt CallKind.Destroy may) refl) e;

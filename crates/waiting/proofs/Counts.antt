@@ -1,11 +1,8 @@
 -- Counting the numbers below n that a test picks, and summing what each is worth: a test that picks fewer sums to less, by all that one which it leaves
 -- out is worth; a test that never picks 0 counts at most n - 1. By induction on n. Assumes nothing.
-use mathlib.Core.Bool.{Bool, true, false, false≢true}
-use mathlib.Core.Path.{◌≡◌, refl, sym, ap, ◌∙◌, subst}
-use Prim.Native.Nat.{ℕ, zero, suc, ◌+◌, ◌*◌, ◌≤◌, ◌<◌}
-use native.Mathlib.Nat.{not-suc-le-zero, zero-mul, suc-mul}
-use native.Mathlib.Decide.{ℕ_discrete}
-use native.Mathlib.Omega.{arith}
+use Rattle.std.proofs.Common.{Bool, true, false, ◌≡◌, refl, sym, ap, ◌∙◌, subst, ℕ, zero, suc, ◌+◌, ◌*◌, ◌≤◌, ◌<◌, not-suc-le-zero, zero-mul, suc-mul, arith}
+use Rattle.std.proofs.lemmas.Bool.{false≢true}
+use Rattle.std.proofs.Math.Decide.{ℕ_discrete}
 use Rattle.cpu_set.specs.CpuSet.{count_below}
 use Rattle.waiting.specs.Demand3.{sum_below}
 

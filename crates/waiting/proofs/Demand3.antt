@@ -1,12 +1,7 @@
 -- Demand 3 of our manager. The call goes as its account begins (Begin); along every list the machine follows the account (Runs), so that each poll
 -- is an own step (Own) and each other event keeps the table (Others); the effect is counted once (Progress), and messages are bounded (Messages,
 -- Bound). Assumes nothing.
-use mathlib.Core.Bool.{true, false, not}
-use mathlib.Core.Path.{◌≡◌, refl, sym, ap, ◌∙◌, subst}
-use mathlib.Core.Logic.{inl}
-use mathlib.Core.List.{List, [], ◌∷◌, ◌++◌}
-use Prim.Native.Nat.{ℕ, ◌+◌, ◌≤◌, ◌<◌}
-use native.Mathlib.Omega.{arith}
+use Rattle.std.proofs.Common.{true, false, not, ◌≡◌, refl, sym, ap, ◌∙◌, subst, inl, List, [], ◌∷◌, ◌++◌, ℕ, ◌+◌, ◌≤◌, ◌<◌, arith}
 use Rattle.machine_state.specs.declared.Machine.{Machine}
 use Rattle.rules.specs.State.{limit_at, waits}
 use Rattle.rules.specs.Step.{step}
@@ -25,7 +20,7 @@ use Rattle.waiting.proofs.Begin.{n, went_call, root, goes_on, n-woken, call-arri
 use Rattle.waiting.proofs.Runs.{Along, along, other_at, other-stays}
 use Rattle.waiting.proofs.Progress.{Going, due-after}
 use Rattle.waiting.proofs.Messages.{Sent, InCall, in-w, Listed, listed, one_more, went-sent}
-use Rattle.waiting.proofs.Bound.{ahead, Counted, OnTime, in-time}
+use Rattle.waiting.proofs.Bound.{ahead, OnTime, in-time}
 use Rattle.waiting.proofs.Premises.{Within, within-on-time, each-limited, limits-on-time, due-by-k, due-by-limits, w-small}
 
 module _ (c : CallLine) (met : Machine) (h : AllWords met) (q : AllCpus met) (t : LeftWaiting step c met) where

@@ -1,31 +1,27 @@
 -- The machine follows the account: while the account has not ended, the waiting call is the account's, with its count, the cell waited for is live, and the
 -- observer has its `from`. A move of the account leads to such a machine, a poll that hears nothing and an event of others keep it. No step of a call
 -- that goes on wakes a cell. Assumes nothing.
-use mathlib.Core.Bool.{Bool, true, false, not, ◌&&◌, true≢false, false≢true}
-use mathlib.Core.Path.{◌≡◌, refl, sym, ap, ap₂, ◌∙◌, subst}
-use Prim.Native.Nat.{ℕ, ◌<◌, ◌≤◌}
-use native.Mathlib.Omega.{arith}
-use borrow.Author.Tests.{eqb-false, eq-eqb, not-true}
-use lib.Dec.{eqb}
-use lib.ListN.{length, length-map}
+use Rattle.std.proofs.Common.{Bool, true, false, not, ◌&&◌, true≢false, ◌≡◌, refl, sym, ap, ap₂, ◌∙◌, subst, ℕ, ◌<◌, ◌≤◌, arith, eq-eqb, eqb, length, Option}
+use Rattle.std.proofs.lemmas.Bool.{and_parts, eqb-false, false≢true, not-true}
+use Rattle.std.proofs.Math.ListN.{length-map}
 use Rattle.base.proofs.Tests.{is_true, is_false}
 use Rattle.cell_record.specs.declared.CellConfig.{CellConfig}
 use Rattle.machine_state.specs.declared.CommRegion.{CommRegion}
 use Rattle.machine_state.specs.declared.CallKind.{CallKind}
 use Rattle.machine_state.specs.declared.CallKind.TheVariants.{Disable, Create, Start, SetLoadable, Destroy}
 use Rattle.machine_state.specs.declared.Event.{Event}
-use Rattle.machine_state.specs.declared.Waiting.{Waiting}
+use Rattle.machine_state.specs.Machine.{Waiting}
 use Rattle.machine_state.specs.declared.Machine.{Machine}
 use Rattle.machine_state.specs.declared.Stepped.{Stepped}
 use Rattle.rules.specs.State.{comm_at, limit_at, has_id, live, active, with_comm, with_waiting, with_pool, with_ids, with_root_cpus, with_cpus, with_cell}
 use Rattle.rules.specs.Unobeyed.{is_on}
 use Rattle.rules.specs.Effects.{effect, cell_created, cell_destroyed, cpus_changed}
 use Rattle.rules.specs.Asking.{may_be_messaged, message, shutdown_request, reconfig_completed, tells}
-use Rattle.rules.specs.Account.{CutOff, Account, Place, Asks, Tells, Ended, moves_to, cutting, stays_with, remains, ended_at, waited_at}
-use Rattle.rules.specs.Observer.{Watched, watched_other, watched}
+use Rattle.rules.specs.Account.{Account, Place, Asks, Tells, Ended, moves_to, cutting, stays_with, remains, ended_at, waited_at}
+use Rattle.rules.specs.Observer.{Watched, watched}
 use Rattle.waiting.specs.Steps.{cell_table_of, CellTable, owner_in, messaged_at, cut_from, account_effect, move_of}
 use Rattle.waiting.proofs.Shown.{live-lt}
-use Rattle.waiting.proofs.Machines.{AllWords, AllCpus, comm-same, all-words-with, NoneWoken, woken-same, woken-trans, words-woken, effect-may, effect-other, effect-all-words, effect-all-cpus, and-fst, and-snd}
+use Rattle.waiting.proofs.Machines.{AllWords, AllCpus, comm-same, all-words-with, NoneWoken, woken-same, woken-trans, words-woken, effect-may, effect-other, effect-all-words, effect-all-cpus}
 use Rattle.waiting.proofs.Moves.{waiting_at, waiting_of, Heeds, AtPlace}
 use Rattle.waiting.proofs.Kept.{Kept}
 use Rattle.waiting.proofs.Stores.{Other}
@@ -44,12 +40,12 @@ pub record Follows (m : Machine) (w : Watched) : Type 0 where
 
 pub may-live : (m : Machine) (id : ℕ) → may_be_messaged m id ≡ true → live m id ≡ true
 unfolding may_be_messaged active
-may-live m id t = and-snd (not (eqb id 0)) (live m id) (and-fst (not (eqb id 0) && live m id) _ (and-fst _ (not (comm_at m id).passive) t))
+may-live m id t = (and_parts (not (eqb id 0)) (live m id) ((and_parts (not (eqb id 0) && live m id) _ ((and_parts _ (not (comm_at m id).passive) t).0)).0)).1
 
 may-low : (m : Machine) (id : ℕ) → may_be_messaged m id ≡ true → 1 ≤ id
 unfolding may_be_messaged active
 may-low m id t =
-    above id (eqb-false id 0 (not-true _ (and-fst (not (eqb id 0)) (live m id) (and-fst (not (eqb id 0) && live m id) _ (and-fst _ (not (comm_at m id).passive) t)))))
+    above id (eqb-false id 0 (not-true _ ((and_parts (not (eqb id 0)) (live m id) ((and_parts (not (eqb id 0) && live m id) _ ((and_parts _ (not (comm_at m id).passive) t).0)).0)).0)))
   where
     above : (n : ℕ) → (n ≡ 0 → ⊥) → 1 ≤ n
     above n f = omega arith
@@ -93,9 +89,9 @@ module _ (kind : CallKind) (target : ℕ) (new : CellConfig) (m : Machine) (h : 
   effect-woken : NoneWoken m (effect kind target new m)
   unfolding NoneWoken
   effect-woken id e = (
-    and-snd (remains target id) (may_be_messaged m id) both,
+    (and_parts (remains target id) (may_be_messaged m id) both).1,
     ap (λ (d : CommRegion). d.reply_limit)
-        (effect-other kind target new m id t (eqb-false id target (not-true (eqb id target) (and-fst (remains target id) (may_be_messaged m id) both)))),
+        (effect-other kind target new m id t (eqb-false id target (not-true (eqb id target) ((and_parts (remains target id) (may_be_messaged m id) both).0)))),
   )
     where
       both : (remains target id && may_be_messaged m id) ≡ true
@@ -109,7 +105,7 @@ module _ (kind : CallKind) (target : ℕ) (new : CellConfig) (m : Machine) (h : 
   effect-may-be c e f = effect-may kind target new m c h l t ∙ ap₂ (λ (x y : Bool). x && y) e f
 
 effect-power : (kind : CallKind) (target : ℕ) (new : CellConfig) (m : Machine) → tells kind ≡ true → (effect kind target new m).power ≡ m.power
-unfolding effect tells cell_created cell_destroyed cpus_changed with_pool with_ids with_root_cpus with_cpus with_cell with_comm
+unfolding effect cell_created cell_destroyed cpus_changed with_pool with_ids with_root_cpus with_cpus with_cell with_comm
 effect-power Disable target new m t = absurd (false≢true t)
 effect-power Create target new m t = refl
 effect-power Start target new m t = absurd (false≢true t)
@@ -138,7 +134,7 @@ arrives-before l m n w f k = record {
 }
 
 -- a cell that was cut off on the way is no matter of the machine that is left
-pub arrives-cut : (cut : CutOff) (m n : Machine) (a : Account) (reply : ℕ) → Arrives m n (record { account = a; reply = reply })
+pub arrives-cut : (cut : Option ℕ) (m n : Machine) (a : Account) (reply : ℕ) → Arrives m n (record { account = a; reply = reply })
     → Arrives m n (record { account = cutting cut a; reply = reply })
 arrives-cut cut m n a reply l = record {
   follows = record {

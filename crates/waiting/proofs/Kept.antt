@@ -1,11 +1,8 @@
 -- What an event of others keeps while a call waits: the table, the waiting call, who has words, and who may not be messaged. A CPU that keeps its
 -- owner and words that do not wake their cell keep it. Assumes nothing.
-use mathlib.Core.Bool.{false}
-use mathlib.Core.Path.{◌≡◌, refl, sym, ap, ◌∙◌, subst}
-use mathlib.Core.List.{List, map}
-use Prim.Native.Nat.{ℕ, ◌<◌}
-use lib.ListN.{length, get_or, get_or-map, length-map}
-use lib.Seq.{map-set_same, ext_get_or}
+use Rattle.std.proofs.Common.{false, ◌≡◌, refl, sym, ap, ◌∙◌, subst, List, map, ℕ, ◌<◌, length, get_or, ext_get_or, Option, None, Some}
+use Rattle.std.proofs.Math.ListN.{get_or-map, length-map}
+use Rattle.std.proofs.Math.Seq.{map-set_same}
 use Rattle.base.proofs.Lists.{length-up_to, get_or-up_to}
 use Rattle.cpu_set.specs.CpuSet.{member}
 use Rattle.machine_state.specs.declared.Cpu.{Cpu}
@@ -15,7 +12,6 @@ use Rattle.machine_state.specs.Machine.{past_cpu, cpu_in}
 use Rattle.rules.specs.State.{cell_at, comm_at, cpu_at, state_at, limit_at, active, is_final, with_comm, with_cpus, with_cpu}
 use Rattle.rules.specs.Effects.{counted, count_exit, change_in, change_cpus, cpus_changed, stop_cpu, cell_cut_off}
 use Rattle.rules.specs.Asking.{may_be_messaged}
-use Rattle.rules.specs.Account.{CutOff, NoneCut, WasCut}
 use Rattle.rules.proofs.Ids.{by-test}
 use Rattle.waiting.specs.Steps.{CellTable, cell_table_of, owner_in, cut_from}
 use Rattle.waiting.proofs.Machines.{AllWords, all-words-with, NoneWoken, woken-same, woken-trans, by-words, words-woken, AllCpus, cut-all-words, cut-woken}
@@ -109,12 +105,12 @@ pub record Still (m n : Machine) : Type 0 where
   pub table : cell_table_of n ≡ cell_table_of m
   pub woken : NoneWoken m n
 
-pub cut-none-woken : (k : CutOff) (m : Machine) → NoneWoken m (cut_from k m)
+pub cut-none-woken : (k : Option ℕ) (m : Machine) → NoneWoken m (cut_from k m)
 unfolding cut_from
-cut-none-woken NoneCut m = woken-same m
-cut-none-woken (WasCut c) m = cut-woken c m
+cut-none-woken None m = woken-same m
+cut-none-woken (Some c) m = cut-woken c m
 
-pub cut-still : (k : CutOff) (m : Machine) → AllWords m → AllCpus m → Still m (cut_from k m)
+pub cut-still : (k : Option ℕ) (m : Machine) → AllWords m → AllCpus m → Still m (cut_from k m)
 unfolding cut_from
-cut-still NoneCut m h p = record { all_words = h; all_cpus = p; table = refl; woken = cut-none-woken NoneCut m }
-cut-still (WasCut c) m h p = record { all_words = cut-all-words c m h; all_cpus = cut-cpus c m; table = cut-table c m p; woken = cut-none-woken (WasCut c) m }
+cut-still None m h p = record { all_words = h; all_cpus = p; table = refl; woken = cut-none-woken None m }
+cut-still (Some c) m h p = record { all_words = cut-all-words c m h; all_cpus = cut-cpus c m; table = cut-table c m p; woken = cut-none-woken (Some c) m }

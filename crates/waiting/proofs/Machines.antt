@@ -1,15 +1,10 @@
 -- What a part of the machine is after another has changed: a cell's words after a message, and which cells may be messaged after Create's and
 -- Destroy's effects, which no effect makes more, and after a cell was cut off; those that may keep their limits. Assumes nothing.
-use mathlib.Core.Bool.{Bool, true, false, not, ◌&&◌, ◌||◌, and-false, true≢false, false≢true}
-use mathlib.Core.Path.{◌≡◌, refl, sym, ap, ap₂, ◌∙◌, subst}
-use mathlib.Core.Logic.{◌⊎◌, inl, inr}
-use mathlib.Core.List.{List}
-use Prim.Native.Nat.{ℕ, ◌<◌, ◌≤◌}
-use native.Mathlib.Decide.{ℕ_discrete}
-use borrow.Author.Tests.{eq-eqb, ne_eqb, not-true}
-use lib.Dec.{eqb}
-use lib.ListN.{length, get_or, set, length-set}
-use lib.Seq.{get_or-set_same, get_or-set_other, set_out}
+use Rattle.std.proofs.Common.{Bool, true, false, not, ◌&&◌, ◌||◌, true≢false, ◌≡◌, refl, sym, ap, ap₂, ◌∙◌, subst, ◌⊎◌, inl, inr, List, ℕ, ◌<◌, ◌≤◌, eq-eqb, ne_eqb, eqb, length, get_or, set, length-set, get_or-set_same, get_or-set_other}
+use Rattle.std.proofs.lemmas.Bool.{and_parts, false≢true, not-true}
+use Rattle.std.proofs.Math.Bool.{and-false}
+use Rattle.std.proofs.Math.Decide.{ℕ_discrete}
+use Rattle.std.proofs.Math.Seq.{set_out}
 use Rattle.base.proofs.Tests.{le-or-lt}
 use Rattle.base.proofs.Lists.{length-up_to}
 use Rattle.cell_record.specs.declared.CellConfig.{CellConfig}
@@ -18,11 +13,11 @@ use Rattle.machine_state.specs.declared.CallKind.{CallKind}
 use Rattle.machine_state.specs.declared.CallKind.TheVariants.{Disable, Create, Start, SetLoadable, Destroy}
 use Rattle.machine_state.specs.declared.Machine.{Machine}
 use Rattle.machine_state.specs.Machine.{past_comm, no_comm}
-use Rattle.rules.specs.State.{cell_at, comm_at, cpu_at, state_at, limit_at, failed, with_cpu, has_id, live, active, is_final, with_comm, with_pool, with_ids, with_root_cpus, with_cpus, with_cell}
-use Rattle.rules.specs.Effects.{fail_cpu, with_state, all_failed, cell_failed, faulted, cell_created, cell_destroyed, cell_cut_off, change_cpus, cpus_changed, new_comm, effect, drop_id}
+use Rattle.rules.specs.State.{comm_at, state_at, limit_at, failed, has_id, live, active, is_final, with_comm, with_pool, with_ids, with_root_cpus, with_cpus, with_cell}
+use Rattle.rules.specs.Effects.{with_state, cell_created, cell_destroyed, cell_cut_off, change_cpus, cpus_changed, new_comm, effect, drop_id}
 use Rattle.rules.specs.Asking.{may_be_messaged, tells}
 use Rattle.rules.specs.Account.{remains}
-use Rattle.rules.proofs.Ids.{by-test, has-added, has-dropped}
+use Rattle.rules.proofs.Ids.{has-added, has-dropped}
 
 -- every cell has its words
 abbrev pub AllWords : Machine → Type 0
@@ -33,22 +28,6 @@ abbrev pub AllCpus : Machine → Type 0
 AllCpus m = length m.cpus ≡ 64
 
 -- ---- two tests at once
-
-pub and-fst : (a b : Bool) → (a && b) ≡ true → a ≡ true
-and-fst true b e = refl
-and-fst false b e = e
-
-pub and-snd : (a b : Bool) → (a && b) ≡ true → b ≡ true
-and-snd true b e = e
-and-snd false b e = absurd (false≢true e)
-
-pub or_fst : (a b : Bool) → (a || b) ≡ false → a ≡ false
-or_fst true b e = e
-or_fst false b e = refl
-
-pub or_snd : (a b : Bool) → (a || b) ≡ false → b ≡ false
-or_snd true b e = absurd (true≢false e)
-or_snd false b e = e
 
 -- ---- a cell's words
 
@@ -108,13 +87,13 @@ may-back : (id : ℕ) (alive : Bool) (c d : CommRegion) → d.passive ≡ c.pass
     → may_by id alive d ≡ true → may_by id alive c ≡ true
 unfolding may_by
 may-back id alive c d p f t =
-    rw (f (not-true _ (and-snd (not (eqb id 0) && alive) _ up)), ← p, and-fst (not (eqb id 0) && alive) _ up) (and-snd there (not d.passive) t)
+    rw (f (not-true _ ((and_parts (not (eqb id 0) && alive) _ up).1)), ← p, (and_parts (not (eqb id 0) && alive) _ up).0) ((and_parts there (not d.passive) t).1)
   where
     there : Bool
     there = not (eqb id 0) && alive && not (is_final d.cell_state)
 
     up : there ≡ true
-    up = and-fst there (not d.passive) t
+    up = (and_parts there (not d.passive) t).0
 
 -- what holds of a cell's words before and of those put there holds after
 pub by-words : (P : CommRegion → Type 0) (m : Machine) (k id : ℕ) (c : CommRegion) → (id ≡ k → P c) → P (comm_at m id) → P (comm_at (with_comm k c m) id)
@@ -176,7 +155,7 @@ destroyed-may t m id =
 -- after the effect of a call that tells, the cells that may be messaged are those that remain of those that might be before
 pub effect-may : (kind : CallKind) (t : ℕ) (new : CellConfig) (m : Machine) (id : ℕ) → AllWords m → t < 16 → tells kind ≡ true
     → may_be_messaged (effect kind t new m) id ≡ (remains t id && may_be_messaged m id)
-unfolding effect tells
+unfolding effect
 effect-may Disable t new m id h l e = absurd (false≢true e)
 effect-may Create t new m id h l e = created-may t new m id h l
 effect-may Start t new m id h l e = absurd (false≢true e)
@@ -184,7 +163,7 @@ effect-may SetLoadable t new m id h l e = absurd (false≢true e)
 effect-may Destroy t new m id h l e = destroyed-may t m id
 
 pub effect-all-words : (kind : CallKind) (t : ℕ) (new : CellConfig) (m : Machine) → AllWords m → tells kind ≡ true → AllWords (effect kind t new m)
-unfolding effect tells cell_created cell_destroyed cpus_changed with_pool with_ids with_root_cpus with_cpus with_cell with_comm
+unfolding effect cell_created cell_destroyed cpus_changed with_pool with_ids with_root_cpus with_cpus with_cell with_comm
 effect-all-words Disable t new m h e = absurd (false≢true e)
 effect-all-words Create t new m h e = length-set m.comms t (new_comm new) ∙ h
 effect-all-words Start t new m h e = absurd (false≢true e)
@@ -194,7 +173,7 @@ effect-all-words Destroy t new m h e = length-set m.comms t no_comm ∙ h
 -- no cell but its target has other words
 pub effect-other : (kind : CallKind) (t : ℕ) (new : CellConfig) (m : Machine) (id : ℕ) → tells kind ≡ true → (id ≡ t → ⊥)
     → comm_at (effect kind t new m) id ≡ comm_at m id
-unfolding effect tells cell_created cell_destroyed cpus_changed with_pool with_ids with_root_cpus with_cpus with_cell with_comm
+unfolding effect cell_created cell_destroyed cpus_changed with_pool with_ids with_root_cpus with_cpus with_cell with_comm
 effect-other Disable t new m id e q = absurd (false≢true e)
 effect-other Create t new m id e q = get_or-set_other m.comms t id (new_comm new) past_comm q
 effect-other Start t new m id e q = absurd (false≢true e)
@@ -202,28 +181,9 @@ effect-other SetLoadable t new m id e q = absurd (false≢true e)
 effect-other Destroy t new m id e q = get_or-set_other m.comms t id no_comm past_comm q
 
 pub effect-all-cpus : (kind : CallKind) (t : ℕ) (new : CellConfig) (m : Machine) → tells kind ≡ true → AllCpus (effect kind t new m)
-unfolding effect tells cell_created cell_destroyed cpus_changed change_cpus with_pool with_ids with_root_cpus with_cpus with_cell with_comm
+unfolding effect cell_created cell_destroyed cpus_changed change_cpus with_pool with_ids with_root_cpus with_cpus with_cell with_comm
 effect-all-cpus Disable t new m e = absurd (false≢true e)
 effect-all-cpus Create t new m e = length-up_to _ 64
 effect-all-cpus Start t new m e = absurd (false≢true e)
 effect-all-cpus SetLoadable t new m e = absurd (false≢true e)
 effect-all-cpus Destroy t new m e = length-up_to _ 64
-
--- ---- a fault marks the CPU failed, and may make its cell's state 3 where it is not final
-
-abbrev pub faulted_cpu : ℕ → Machine → Machine
-faulted_cpu cpu m = with_cpu cpu (fail_cpu (cpu_at m cpu)) m
-
-pub by-fault : (P : Machine → Type 0) (cpu : ℕ) (m : Machine) → P (faulted_cpu cpu m)
-    → (is_final (state_at m (cpu_at m cpu).cell) ≡ false
-    → P (with_comm (cpu_at m cpu).cell (with_state failed (comm_at m (cpu_at m cpu).cell)) (faulted_cpu cpu m)))
-    → P (faulted cpu m)
-unfolding faulted cell_failed with_cpus
-by-fault P cpu m p q =
-    by-test P (all && not (is_final (state_at m id))) _ _ (λ e. q (not-true (is_final (state_at m id)) (and-snd all (not (is_final (state_at m id))) e))) (λ e. p)
-  where
-    id : ℕ
-    id = (cpu_at m cpu).cell
-
-    all : Bool
-    all = not (eqb id 0) && all_failed (cell_at m id).cpus (faulted_cpu cpu m).cpus

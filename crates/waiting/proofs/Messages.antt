@@ -1,12 +1,8 @@
 -- The messages of a call. Each goes to a cell of W that was still to come, after which it is none, so that each cell is messaged at most once.
 -- Assumes nothing.
-use mathlib.Core.Bool.{Bool, true, false, not, ◌&&◌, ◌||◌, or-true, and-false, true≢false, false≢true}
-use mathlib.Core.Path.{◌≡◌, refl, sym, ap, ap₂, ◌∙◌, subst}
-use mathlib.Core.List.{List, [], ◌∷◌, ◌++◌}
-use Prim.Native.Nat.{ℕ}
-use native.Mathlib.Omega.{arith}
-use borrow.Author.Tests.{le-ltb, eqb-true}
-use lib.Dec.{ltb, eqb}
+use Rattle.std.proofs.Common.{Bool, true, false, not, ◌&&◌, ◌||◌, true≢false, ◌≡◌, refl, sym, ap, ap₂, ◌∙◌, subst, List, [], ◌∷◌, ◌++◌, ℕ, arith, le-ltb, eqb-true, ltb, eqb}
+use Rattle.std.proofs.lemmas.Bool.{and_parts, false≢true}
+use Rattle.std.proofs.Math.Bool.{or-true, and-false}
 use Rattle.base.specs.Lists.{all, pairwise}
 use Rattle.machine_state.specs.declared.CallKind.{CallKind}
 use Rattle.machine_state.specs.declared.CallKind.TheVariants.{Disable, Create, Start, SetLoadable, Destroy}
@@ -17,7 +13,7 @@ use Rattle.rules.specs.Account.{Account, Place, Asks, Tells, Ended, moves_to, cu
 use Rattle.rules.specs.Run.{Line, is_poll}
 use Rattle.waiting.specs.Steps.{Moment, account, account_ended, next, cut_from, cell_of_place, messaged_with, messaged_in}
 use Rattle.waiting.specs.Demand3.{times_due, in_w}
-use Rattle.waiting.proofs.Machines.{NoneWoken, and-fst, and-snd}
+use Rattle.waiting.proofs.Machines.{NoneWoken}
 use Rattle.waiting.proofs.Kept.{cut-none-woken}
 use Rattle.waiting.proofs.Went.{Went, Heard, Fit, ask_ahead, tell_ahead, to_come}
 use Rattle.waiting.proofs.Own.{follows-waits}
@@ -39,7 +35,7 @@ not-below-itself c = le-ltb c c (omega arith)
 
 -- a cell that is asked is not told as well: Destroy's target does not remain
 asked-out : (kind : CallKind) (target c : ℕ) → asks kind target c ≡ true → (tells kind && remains target c) ≡ false
-unfolding asks tells
+unfolding asks
 asked-out Disable target c e = refl
 asked-out Create target c e = absurd (false≢true e)
 asked-out Start target c e = refl
@@ -117,9 +113,8 @@ module _ (m : Machine) (kind : CallKind) (target : ℕ) (before : ℕ → Bool) 
 -- ---- lists of cells
 
 all-mono : (p q : ℕ → Bool) → ((id : ℕ) → p id ≡ true → q id ≡ true) → (ids : List ℕ) → all p ids ≡ true → all q ids ≡ true
-unfolding all
 all-mono p q f [] e = refl
-all-mono p q f (id ∷ ids) e = rw (f id (and-fst (p id) (all p ids) e)) (all-mono p q f ids (and-snd (p id) (all p ids) e))
+all-mono p q f (id ∷ ids) e = rw (f id ((and_parts (p id) (all p ids) e).0)) (all-mono p q f ids ((and_parts (p id) (all p ids) e).1))
 
 -- one that a test does not pick differs from all that it picks
 all-differ : (p : ℕ → Bool) (c : ℕ) → p c ≡ false → (ids : List ℕ) → all p ids ≡ true → all (λ id. not (eqb c id)) ids ≡ true
@@ -206,12 +201,12 @@ module _ (a : Account) (met : Machine) where
     pub once : pairwise (λ x y. not (eqb x y)) cells ≡ true
 
   no_cells : (place : Place) → Listed place []
-  unfolding all pairwise
+  unfolding pairwise
   no_cells place = record { inside = refl; ahead = refl; once = refl }
 
   pub one_more : (m : Machine) (before place : Place) (cells : List ℕ) → NoneWoken met m
       → Sent m a.kind a.target (to_come a.kind a.target before) place → Listed place cells → Listed before (waited_at place ∷ cells)
-  unfolding all pairwise
+  unfolding pairwise
   one_more m before place cells w s l = record {
     inside = ap₂ (λ (x y : Bool). x && y) (in-w m place _ w s) l.inside;
     ahead = ap₂ (λ (x y : Bool). x && y) s.came (all-mono _ _ s.rest cells l.ahead);

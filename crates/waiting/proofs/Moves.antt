@@ -2,25 +2,16 @@
 -- says, as one equation. The rules' next cell and lock are those that the observer shows (Shown); after an effect that is followed by telling
 -- the cells that may be told are those that remain (Machines). A cell that its limit cuts off is heard on the machine without it, which shows it
 -- failed. Assumes nothing.
-use mathlib.Core.Bool.{Bool, true, false, not, ◌&&◌, ◌||◌, and-true, and_assoc, true≢false}
-use mathlib.Core.Path.{◌≡◌, refl, sym, ap, ap₂, ◌∙◌, subst}
-use mathlib.Core.List.{List}
-use Prim.Native.Nat.{ℕ, ◌<◌, ◌≤◌}
-use native.Mathlib.Nat.{mod-eq_of_lt}
-use native.Mathlib.Decide.{ℕ_discrete}
-use native.Mathlib.Omega.{arith}
-use borrow.Author.Tests.{eq-eqb, ne_eqb}
-use lib.Dec.{ltb}
-use lib.IntN.{ℤ, pos}
-use lib.ListN.{length}
+use Rattle.std.proofs.Common.{Bool, true, false, not, ◌&&◌, ◌||◌, true≢false, ◌≡◌, refl, sym, ap, ap₂, ◌∙◌, subst, List, ℕ, ◌<◌, ◌≤◌, mod-eq_of_lt, arith, eq-eqb, ne_eqb, ltb, ℤ, pos, length, Option, None, Some}
+use Rattle.std.proofs.Math.Bool.{and-true, and_assoc}
+use Rattle.std.proofs.Math.Decide.{ℕ_discrete}
 use Rattle.base.specs.Rules.{EPERM}
 use Rattle.base.proofs.Tests.{is_true, is_false}
 use Rattle.cell_record.specs.declared.CellConfig.{CellConfig}
 use Rattle.machine_state.specs.declared.CommRegion.{CommRegion}
 use Rattle.machine_state.specs.declared.CallKind.{CallKind}
 use Rattle.machine_state.specs.declared.CallKind.TheVariants.{Disable, Create, Start, SetLoadable, Destroy}
-use Rattle.machine_state.specs.declared.Waiting.{Waiting}
-use Rattle.machine_state.specs.declared.Waiting.TheVariants.{NoCall, Pending}
+use Rattle.machine_state.specs.Machine.{Waiting}
 use Rattle.machine_state.specs.declared.Answer.TheVariants.{Code, Wait}
 use Rattle.machine_state.specs.declared.Machine.{Machine}
 use Rattle.machine_state.specs.declared.Stepped.{Stepped}
@@ -28,7 +19,7 @@ use Rattle.rules.specs.State.{comm_at, limit_at, no_id, live, failed, with_cpus,
 use Rattle.rules.specs.Effects.{effect, with_state, cpus_changed, cell_cut_off}
 use Rattle.rules.specs.Create.{other_cell_locked}
 use Rattle.rules.specs.Asking.{may_be_messaged, next_to_message, every_cell, asks, tells, is_destroy, end_code, asking, telling, tell, wait_for, finished, carry_out, none_to_ask, ask, is_heard, consents, hear, is_last_poll, polls_after, with_polls, cuts_off, hears_at, heard_at, still_waits, poll_cell, poll}
-use Rattle.rules.specs.Account.{Shown, CutOff, NoneCut, WasCut, Account, Place, Asks, Tells, Ended, moves_to, cutting, stays_with, remains, next_shown, lock_shown, last_code, tell_on, effect_comes, none_left_to_ask, ask_on, heard_by, consents_by, state_shown, limit_shown, failed_shown, unheard_at, polled_at, polled, answer_at, answer_of}
+use Rattle.rules.specs.Account.{Shown, Account, Place, Asks, Tells, Ended, moves_to, cutting, stays_with, remains, next_shown, lock_shown, last_code, tell_on, effect_comes, none_left_to_ask, ask_on, heard_by, consents_by, state_shown, limit_shown, failed_shown, unheard_at, polled_at, polled, answer_at, answer_of}
 use Rattle.rules.specs.Observer.{shown_by}
 use Rattle.rules.proofs.Ids.{first-same, by-test}
 use Rattle.waiting.specs.Steps.{messaged_at, cut_from, account_effect, move_of}
@@ -37,9 +28,9 @@ use Rattle.waiting.proofs.Machines.{AllWords, NoneWoken, comm-same, effect-may, 
 
 -- the waiting call at a place of the account, with its count of polls
 unfoldable pub waiting_at : CallKind → ℕ → Place → ℕ → Waiting
-waiting_at kind target (Asks c) polls = Pending kind (asking target c polls)
-waiting_at kind target (Tells c) polls = Pending kind (telling target c polls)
-waiting_at kind target (Ended code) polls = NoCall
+waiting_at kind target (Asks c) polls = Some (kind, asking target c polls)
+waiting_at kind target (Tells c) polls = Some (kind, telling target c polls)
+waiting_at kind target (Ended code) polls = None
 
 abbrev pub waiting_of : Account → Waiting
 waiting_of a = waiting_at a.kind a.target a.place a.polls
@@ -86,7 +77,7 @@ tell-placed kind target after next n h e =
     go : (b : Bool) → ltb there no_id ≡ b
         → tell kind target after n ≡ placed kind target (elim b [ true ↦ Tells there | false ↦ Ended (last_code kind target) ]) n
     go true q = rw (q, tell)
-    go false q = rw (q, tell) (ap (λ (z : ℤ). answered (Code z) (with_waiting NoCall n)) (end-code kind target h))
+    go false q = rw (q, tell) (ap (λ (z : ℤ). answered (Code z) (with_waiting None n)) (end-code kind target h))
 
 -- ---- what has to hold for a poll to move as the account
 
@@ -161,7 +152,7 @@ module _ (kind : CallKind) (target : ℕ) (new : CellConfig) (m : Machine) (h : 
 
 module _ (kind : CallKind) (target : ℕ) (shown : List Shown) where
   abbrev Uncut : Account → Type 0
-  Uncut a = a.cut ≡ NoneCut
+  Uncut a = a.cut ≡ None
 
   effect-uncut : Uncut (effect_comes kind target shown)
   unfolding effect_comes tell_on
@@ -176,10 +167,10 @@ module _ (kind : CallKind) (target : ℕ) (shown : List Shown) where
   ask-uncut after = by-test Uncut (ltb (next_shown (asks kind target) after shown) no_id) _ _ (λ e. refl) (λ e. none-uncut)
 
 -- it is the same move, on the machine without that cell
-cut_step : (c : ℕ) (a : Account) (new : CellConfig) (m : Machine) → a.cut ≡ NoneCut
-    → step_for a new (cell_cut_off c m) ≡ step_for (cutting (WasCut c) a) new m
+cut_step : (c : ℕ) (a : Account) (new : CellConfig) (m : Machine) → a.cut ≡ None
+    → step_for a new (cell_cut_off c m) ≡ step_for (cutting (Some c) a) new m
 unfolding step_for move_of cut_from account_effect
-cut_step c a new m e = ap (λ (k : CutOff). answered (answer_of a) (with_waiting (waiting_of a) (elim a.moved [
+cut_step c a new m e = ap (λ (k : Option ℕ). answered (answer_of a) (with_waiting (waiting_of a) (elim a.moved [
   | true ↦ messaged_at a.place (account_effect a new (cut_from k (cell_cut_off c m)))
   | false ↦ account_effect a new (cut_from k (cell_cut_off c m))
 ]))) e
@@ -207,23 +198,23 @@ module _ (kind : CallKind) (target : ℕ) (new : CellConfig) (m : Machine) (h : 
     unfolding consents cell_cut_off cpus_changed with_cpus
     cut-consents = ap (λ (d : CommRegion). consents d) (comm-same m c (with_state failed (comm_at m c)) inside)
 
-    cut-asks : ask kind target c new (cell_cut_off c m) ≡ step_for (cutting (WasCut c) (ask_on kind target c (failed_shown c (shown_by m)))) new m
+    cut-asks : ask kind target c new (cell_cut_off c m) ≡ step_for (cutting (Some c) (ask_on kind target c (failed_shown c (shown_by m)))) new m
     cut-asks =
         ask-moves kind target new (cell_cut_off c m) (cut-all-words c m h) l c
         ∙ cut_step c _ new m (ask-uncut kind target (shown_by (cell_cut_off c m)) c)
-        ∙ ap (λ (shown : List Shown). step_for (cutting (WasCut c) (ask_on kind target c shown)) new m) (sym (failed-shown m c inside))
+        ∙ ap (λ (shown : List Shown). step_for (cutting (Some c) (ask_on kind target c shown)) new m) (sym (failed-shown m c inside))
 
     cut-tells : may_be_messaged m target ≡ false
-        → tell kind target c (cell_cut_off c m) ≡ step_for (cutting (WasCut c) (tell_on kind target false c (failed_shown c (shown_by m)))) new m
+        → tell kind target c (cell_cut_off c m) ≡ step_for (cutting (Some c) (tell_on kind target false c (failed_shown c (shown_by m)))) new m
     unfolding tell_on NoneWoken
     cut-tells e =
         tell-moves kind target new (cell_cut_off c m) (cut-all-words c m h) l c
         (is_false (may_be_messaged (cell_cut_off c m) target) (λ t. true≢false (sym (cut-woken c m target (is_true _ t)).0 ∙ e)))
         ∙ cut_step c _ new m refl
-        ∙ ap (λ (shown : List Shown). step_for (cutting (WasCut c) (tell_on kind target false c shown)) new m) (sym (failed-shown m c inside))
+        ∙ ap (λ (shown : List Shown). step_for (cutting (Some c) (tell_on kind target false c shown)) new m) (sym (failed-shown m c inside))
 
   -- the account at a place, as its last move left it
-  abbrev place_of : Place → ℕ → Bool → Bool → CutOff → Account
+  abbrev place_of : Place → ℕ → Bool → Bool → Option ℕ → Account
   place_of place polls moved effect cut = record { kind = kind; target = target; place = place; polls = polls; moved = moved; effect = effect; cut = cut }
 
   refused : finished EPERM m ≡ step_for (moves_to kind target false (Ended EPERM)) new m
@@ -231,7 +222,7 @@ module _ (kind : CallKind) (target : ℕ) (new : CellConfig) (m : Machine) (h : 
   refused = refl
 
   -- a poll that hears, that the limit has heard, or that hears nothing: "changes that count and nothing else"
-  poll-at : (place : Place) (polls : ℕ) (moved effect : Bool) (cut : CutOff) (reply : ℕ) → AtPlace m target place reply
+  poll-at : (place : Place) (polls : ℕ) (moved effect : Bool) (cut : Option ℕ) (reply : ℕ) → AtPlace m target place reply
       → poll (waiting_at kind target place polls) new m ≡ step_for (polled_at place (place_of place polls moved effect cut) reply (shown_by m)) new m
   unfolding AtPlace poll poll_cell hear hears_at heard_at cuts_off still_waits with_polls polled_at unheard_at waiting_at answer_at step_for move_of cut_from account_effect
   poll-at (Asks c) polls moved effect cut reply w =
@@ -248,7 +239,7 @@ module _ (kind : CallKind) (target : ℕ) (new : CellConfig) (m : Machine) (h : 
           elim b [
             | true ↦ elim d [ true ↦ ask_on kind target c (shown_by m) | false ↦ moves_to kind target false (Ended EPERM) ]
             | false ↦ elim last [
-              | true ↦ cutting (WasCut c) (ask_on kind target c (failed_shown c (shown_by m)))
+              | true ↦ cutting (Some c) (ask_on kind target c (failed_shown c (shown_by m)))
               | false ↦ stays_with (polls_after limit polls) (place_of (Asks c) polls moved effect cut)
             ]
           ]
@@ -279,7 +270,7 @@ module _ (kind : CallKind) (target : ℕ) (new : CellConfig) (m : Machine) (h : 
           elim b [
             | true ↦ tell_on kind target false c (shown_by m)
             | false ↦ elim last [
-              | true ↦ cutting (WasCut c) (tell_on kind target false c (failed_shown c (shown_by m)))
+              | true ↦ cutting (Some c) (tell_on kind target false c (failed_shown c (shown_by m)))
               | false ↦ stays_with (polls_after limit polls) (place_of (Tells c) polls moved effect cut)
             ]
           ]

@@ -1,21 +1,13 @@
 -- The events of others while a call waits: root is held and other CPUs' calls end at once, so only words, marks and counters change. The table,
 -- the waiting call and who may be messaged stay, and the observer's reply follows the waited cell's `from`. Assumes nothing.
-use mathlib.Core.Bool.{Bool, true, false, ◌&&◌, and-true, true≢false}
-use mathlib.Core.Path.{◌≡◌, refl, sym, ap, ◌∙◌, subst}
-use mathlib.Core.List.{List, ◌∷◌}
-use Prim.Native.Nat.{ℕ}
-use borrow.Author.Tests.{not-true}
-use lib.Dec.{eqb}
+use Rattle.std.proofs.Common.{Bool, true, false, ◌&&◌, true≢false, ◌≡◌, refl, sym, ap, ◌∙◌, subst, List, ℕ, eqb}
 use Rattle.rules.specs.Run.{is_poll}
-use Rattle.base.specs.Lists.{any}
-use Rattle.base.specs.Rules.{Refusal}
 use Rattle.machine_state.specs.declared.CommRegion.{CommRegion}
 use Rattle.machine_state.specs.declared.Event.{Event}
 use Rattle.machine_state.specs.declared.Event.TheVariants.{Call, Store, Fault, Exit, Poll, Malformed}
 use Rattle.machine_state.specs.declared.Answer.{Answer}
 use Rattle.machine_state.specs.declared.Answer.TheVariants.{Code, Done, Bad}
 use Rattle.machine_state.specs.declared.Machine.{Machine}
-use Rattle.machine_state.specs.declared.Stepped.{Stepped}
 use Rattle.rules.specs.State.{comm_at, cpu_at, failed, waits, with_cpus, answered}
 use Rattle.rules.specs.Unobeyed.{unobeyed, is_obeyed}
 use Rattle.rules.specs.Effects.{counted, call_counter, exit_counter, store_word, with_state, fail_cpu, faulted}
@@ -24,8 +16,8 @@ use Rattle.rules.specs.Step.{obeyed, step}
 use Rattle.rules.specs.Account.{waited_at}
 use Rattle.rules.specs.Observer.{watched_other, watched_store, watched, is_done}
 use Rattle.rules.specs.Answers.{is_unobeyed, is_wait}
-use Rattle.rules.proofs.Cases.{word-cases, step-cases}
-use Rattle.waiting.proofs.Machines.{by-words, faulted_cpu, by-fault, or_fst, or_snd}
+use Rattle.rules.proofs.Cases.{NoneApplies, no_row, not_root, faulted_cpu, fault-cases, word-cases, step-cases}
+use Rattle.waiting.proofs.Machines.{by-words}
 use Rattle.waiting.proofs.Calls.{Ends, other-ends}
 use Rattle.waiting.proofs.Kept.{Kept, kept_same, kept_trans, kept-cpu, kept-words, kept-counted, owner-same}
 use Rattle.waiting.proofs.Stores.{Other, SameFrom, Passed, passed_over, store_other}
@@ -35,7 +27,7 @@ use Rattle.waiting.proofs.Stores.{Other, SameFrom, Passed, passed_over, store_ot
 fault-kept : (cpu : ℕ) (m : Machine) → Kept m (faulted cpu m)
 unfolding fail_cpu store_word with_cpus
 fault-kept cpu m =
-    by-fault (Kept m) cpu m marked
+    fault-cases (Kept m) cpu m marked
     (λ f. kept_trans m (faulted_cpu cpu m) _ marked (kept-words (cpu_at m cpu).cell (with_state failed (comm_at m (cpu_at m cpu).cell)) (faulted_cpu cpu m) refl refl (λ t. f)))
   where
     marked : Kept m (faulted_cpu cpu m)
@@ -43,7 +35,7 @@ fault-kept cpu m =
 
 fault-from : (cpu : ℕ) (m : Machine) → SameFrom m (faulted cpu m)
 unfolding store_word with_cpus
-fault-from cpu m id = by-fault (λ n. (comm_at n id).reply_from_cell ≡ (comm_at m id).reply_from_cell) cpu m refl (λ f. by-words Same (faulted_cpu cpu m) own id _ same refl)
+fault-from cpu m id = fault-cases (λ n. (comm_at n id).reply_from_cell ≡ (comm_at m id).reply_from_cell) cpu m refl (λ f. by-words Same (faulted_cpu cpu m) own id _ same refl)
   where
     own : ℕ
     own = (cpu_at m cpu).cell
@@ -59,24 +51,10 @@ unfolding is_wait is_done
 word-quiet =
     word-cases (λ w. (is_wait w ≡ false) × (is_done w ≡ false)) (refl, refl) (refl, refl) (refl, refl) (refl, refl) (refl, refl) (refl, refl)
 
--- an obeyed event is one to which no row of unobeyed events applies, row by row
-pub rows : (r : Refusal Stepped) (rs : List (Refusal Stepped)) → any (λ (r : Refusal Stepped). r.when) (r ∷ rs) ≡ false
-    → (r.when ≡ false) × (any (λ (r : Refusal Stepped). r.when) rs ≡ false)
-unfolding any
-rows r rs e = (or_fst r.when (any (λ (r : Refusal Stepped). r.when) rs) e, or_snd r.when (any (λ (r : Refusal Stepped). r.when) rs) e)
-
-pub no_row : (e : Event) (m : Machine) → is_obeyed e m ≡ true → any (λ (r : Refusal Stepped). r.when) (unobeyed e m) ≡ false
-unfolding is_obeyed
-no_row e m o = not-true (any (λ (r : Refusal Stepped). r.when) (unobeyed e m)) o
-
 module _ (m : Machine) (bytes : List ℕ) (waiting : waits m.waiting ≡ true) where
   -- a row of unobeyed events
   unobeyed-other : (e : Event) (answer : Answer) → is_wait answer ≡ false → Passed e answer m → Other e m (answered answer m)
   unobeyed-other e answer q p = passed_over e answer m m (kept_same m) q (λ id. refl) p
-
-  -- "held": an obeyed event is of a CPU that is not root's
-  not_root : (cpu : ℕ) → (eqb (cpu_at m cpu).cell 0 && waits m.waiting) ≡ false → eqb (cpu_at m cpu).cell 0 ≡ false
-  not_root cpu e = sym (and-true (eqb (cpu_at m cpu).cell 0)) ∙ ap (λ (b : Bool). eqb (cpu_at m cpu).cell 0 && b) (sym waiting) ∙ e
 
   call-other : (cpu code a1 a2 : ℕ) → eqb (cpu_at m cpu).cell 0 ≡ false
       → Other (Call cpu code a1 a2) m (call cpu code a1 a2 bytes (counted call_counter cpu m))
@@ -100,7 +78,7 @@ module _ (m : Machine) (bytes : List ℕ) (waiting : waits m.waiting ≡ true) w
 
   -- the observer passes over a word, and over all that is no store
   passes : (e : Event) (w : Answer) → is_poll e ≡ false → is_done w ≡ false → Passed e w m
-  unfolding watched watched_store is_poll
+  unfolding watched watched_store
   passes (Call cpu code a1 a2) w p d x = refl
   passes (Store cpu word value) w p d x =
       ap
@@ -121,11 +99,9 @@ module _ (m : Machine) (bytes : List ℕ) (waiting : waits m.waiting ≡ true) w
       quiet = word-quiet w u
 
   obeyed-other : (e : Event) → is_poll e ≡ false → is_obeyed e m ≡ true → Other e m (obeyed e bytes m)
-  unfolding obeyed is_poll unobeyed is_unobeyed
-  obeyed-other (Call cpu code a1 a2) p o =
-      call-other cpu code a1 a2 (not_root cpu (rows _ _ (rows _ _ (rows _ _ (rows _ _ (no_row (Call cpu code a1 a2) m o)).1).1).1).0)
-  obeyed-other (Store cpu word value) p o =
-      store_other cpu word value m (rows _ _ (rows _ _ (rows _ _ (rows _ _ (rows _ _ (no_row (Store cpu word value) m o)).1).1).1).1).0
+  unfolding obeyed unobeyed is_unobeyed NoneApplies
+  obeyed-other (Call cpu code a1 a2) p o = call-other cpu code a1 a2 (not_root cpu m waiting (no_row (Call cpu code a1 a2) m o).1.1.1.0)
+  obeyed-other (Store cpu word value) p o = store_other cpu word value m (no_row (Store cpu word value) m o).1.1.1.1.0
   obeyed-other (Fault cpu) p o = fault-other cpu
   obeyed-other (Exit cpu kind) p o = exit-other cpu kind
   obeyed-other Poll p o = absurd (true≢false p)

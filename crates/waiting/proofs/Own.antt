@@ -1,21 +1,15 @@
 -- A call's own steps: a step that goes as the account's move has the account's answer, waits as it does, leaves the machine that the move makes,
 -- and keeps the table where the effect does not come with it. A poll of a machine that follows the account is such a step, and the machine that it
 -- leaves follows the account again, until the end. Assumes nothing.
-use mathlib.Core.Bool.{Bool, true, false, not, true≢false, false≢true}
-use mathlib.Core.Path.{◌≡◌, refl, sym, ap, ◌∙◌, subst}
-use mathlib.Core.Logic.{inl, inr}
-use mathlib.Core.List.{List, []}
-use Prim.Native.Nat.{ℕ, ◌+◌, ◌≤◌}
-use native.Mathlib.Omega.{arith}
-use lib.Dec.{eqb}
-use lib.IntN.{pos, negsuc}
+use Rattle.std.proofs.Common.{Bool, true, false, not, true≢false, ◌≡◌, refl, sym, ap, ◌∙◌, subst, inl, inr, List, [], ℕ, ◌+◌, ◌≤◌, arith, eqb, pos, negsuc}
+use Rattle.std.proofs.lemmas.Bool.{false≢true}
 use Rattle.base.specs.Lists.{all}
 use Rattle.base.proofs.Rules.{rule-passed, no-rule}
 use Rattle.cell_record.specs.declared.CellConfig.{CellConfig}
 use Rattle.cell_record.specs.CellRecord.{cell_of}
 use Rattle.machine_state.specs.declared.CallKind.{CallKind}
 use Rattle.machine_state.specs.declared.CallKind.TheVariants.{Disable, Create, Start, SetLoadable, Destroy}
-use Rattle.machine_state.specs.declared.Waiting.{Waiting}
+use Rattle.machine_state.specs.Machine.{Waiting}
 use Rattle.machine_state.specs.declared.Event.TheVariants.{Poll}
 use Rattle.machine_state.specs.declared.Machine.{Machine}
 use Rattle.machine_state.specs.declared.Stepped.{Stepped}
@@ -27,7 +21,7 @@ use Rattle.rules.specs.Step.{obeyed, step}
 use Rattle.rules.specs.Account.{Account, Place, Asks, Tells, Ended, moves_to, cutting, polled, answer_of, ended_at, waited_at}
 use Rattle.rules.specs.Observer.{Watched, watched_poll, shown_by}
 use Rattle.rules.specs.Run.{Line, Happened, happens}
-use Rattle.waiting.specs.Steps.{CallLine, poll_line, account, messaged_at, cut_from, account_effect, move_of, counted_for, but_waiting, CellTable, cell_table_of, cell_of_place, messaged_with, times_with}
+use Rattle.waiting.specs.Steps.{CallLine, poll_line, messaged_at, cut_from, account_effect, move_of, counted_for, but_waiting, CellTable, cell_table_of, cell_of_place, messaged_with, times_with}
 use Rattle.waiting.specs.Demand3.{AnswersAsAccount, WaitsAsAccount, MovesAsAccount, CountsOnly, KeepsTable, FromCleared, times_due}
 use Rattle.waiting.proofs.Machines.{AllWords, AllCpus}
 use Rattle.waiting.proofs.Moves.{waiting_at, waiting_of, step_for, AtPlace, poll-moves}
@@ -38,7 +32,7 @@ use Rattle.waiting.proofs.Follows.{Follows, Left, arrives-before, arrives-cut, a
 -- ---- a step that goes as the account's move
 
 waits-at : (kind : CallKind) (target : ℕ) (place : Place) (polls : ℕ) → waits (waiting_at kind target place polls) ≡ not (ended_at place)
-unfolding waits waiting_at ended_at
+unfolding waiting_at ended_at
 waits-at kind target (Asks c) polls = refl
 waits-at kind target (Tells c) polls = refl
 waits-at kind target (Ended code) polls = refl
@@ -98,7 +92,7 @@ own-step c l m a e h p t k f = record {
 pub cleared : (a : Account) (n : Machine)
     → (a.moved ≡ true → ended_at a.place ≡ false → 0 ≡ (comm_at n (waited_at a.place)).reply_from_cell)
     → all (λ id. eqb (comm_at n id).reply_from_cell 0) (messaged_with a) ≡ true
-unfolding messaged_with cell_of_place all ended_at waited_at
+unfolding messaged_with cell_of_place ended_at waited_at
 cleared a n f = go a.moved a.place f
   where
     go : (moved : Bool) (place : Place) → (moved ≡ true → ended_at place ≡ false → 0 ≡ (comm_at n (waited_at place)).reply_from_cell)
@@ -112,7 +106,7 @@ cleared a n f = go a.moved a.place f
 
 -- a machine that follows the account has a call waiting
 pub follows-waits : (m : Machine) (w : Watched) → Follows m w → (waits m.waiting ≡ true) × (ended_at w.account.place ≡ false)
-unfolding AtPlace waits waiting_at ended_at
+unfolding AtPlace waiting_at ended_at
 follows-waits m w f = go w.account.place f.place (ap waits f.waiting)
   where
     go : (place : Place) → AtPlace m w.account.target place w.reply → waits m.waiting ≡ waits (waiting_at w.account.kind w.account.target place w.account.polls)

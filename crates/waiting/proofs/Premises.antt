@@ -1,12 +1,8 @@
 -- What keeps a call in time: K polls for each cell of W, where each shows a reply or a final state within K of them or has a limit that serves; or its limit
 -- for each, where all have one. A poll that hears nothing is then not yet the last that is due (Bound). Assumes nothing.
-use mathlib.Core.Bool.{Bool, true, false, not, ◌&&◌, ◌||◌, and-false, true≢false}
-use mathlib.Core.Path.{◌≡◌, refl, sym, ap, ◌∙◌, subst}
-use mathlib.Core.List.{List, ◌∷◌}
-use Prim.Native.Nat.{ℕ, suc, ◌+◌, ◌*◌, ◌≤◌, ◌<◌}
-use native.Mathlib.Omega.{arith}
-use borrow.Author.Tests.{ltb-true, leb-true, le-leb, eqb-false, not-true}
-use lib.Dec.{leb, ltb, eqb}
+use Rattle.std.proofs.Common.{Bool, true, false, not, ◌&&◌, ◌||◌, true≢false, ◌≡◌, refl, sym, ap, ◌∙◌, subst, List, ◌∷◌, ℕ, suc, ◌+◌, ◌*◌, ◌≤◌, ◌<◌, arith, ltb-true, leb-true, le-leb, leb, ltb, eqb}
+use Rattle.std.proofs.lemmas.Bool.{and_parts, eqb-false, not-true, or_parts}
+use Rattle.std.proofs.Math.Bool.{and-false}
 use Rattle.base.proofs.Tests.{is_true, holds}
 use Rattle.base.proofs.Lists.{up_to-elim}
 use Rattle.machine_state.specs.declared.Machine.{Machine}
@@ -18,14 +14,14 @@ use Rattle.rules.specs.Run.{Line, is_poll}
 use Rattle.waiting.specs.Steps.{Moment, account, account_ended, next, shows, waited_limit, serves, heard_within}
 use Rattle.waiting.specs.Demand3.{in_w, size_of_w, all_limited, sum_of_limits, sum_below}
 use Rattle.waiting.proofs.Shown.{live-lt}
-use Rattle.waiting.proofs.Machines.{NoneWoken, and-fst, and-snd, or_fst, or_snd}
+use Rattle.waiting.proofs.Machines.{NoneWoken}
 use Rattle.waiting.proofs.Went.{to_come}
 use Rattle.waiting.proofs.Follows.{may-live}
 use Rattle.waiting.proofs.Own.{follows-waits}
 use Rattle.waiting.proofs.Progress.{hears, count_at}
 use Rattle.waiting.proofs.Messages.{Sent, InCall}
 use Rattle.waiting.proofs.Counts.{sum-le, sum_same, count_small}
-use Rattle.waiting.proofs.Bound.{waited, left, ahead, left_less, limit, limit_is, Counted, not_last, OnTime}
+use Rattle.waiting.proofs.Bound.{left, ahead, left_less, limit, limit_is, Counted, not_last, OnTime}
 
 -- a number that is not 0
 above : (n : ℕ) → not (eqb n 0) ≡ true → 1 ≤ n
@@ -98,20 +94,20 @@ module _ (a : Account) (met : Machine) where
         waits-within h e = go (serves k (limit a met now)) refl
           where
             shown : (b : Bool) → serves k (limit a met now) ≡ b → answered_by k now ≡ b
-            shown b q = ap (λ (x : Bool). x || serves k (waited_limit now)) (or_fst (shows now) _ h) ∙ ap (serves k) (limit_is a met now c) ∙ q
+            shown b q = ap (λ (x : Bool). x || serves k (waited_limit now)) ((or_parts (shows now) _ h).0) ∙ ap (serves k) (limit_is a met now c) ∙ q
 
             go : (b : Bool) → serves k (limit a met now) ≡ b → (suc spent < k) × Within (suc spent) after ls
             go true q =
-                let low : 1 ≤ limit a met now = above (limit a met now) (and-fst (not (eqb (limit a met now) 0)) (leb (limit a met now) k) q) in
-                let high : limit a met now ≤ k = leb-true (limit a met now) k (and-snd (not (eqb (limit a met now) 0)) (leb (limit a met now) k) q) in
+                let low : 1 ≤ limit a met now = above (limit a met now) ((and_parts (not (eqb (limit a met now) 0)) (leb (limit a met now) k) q).0) in
+                let high : limit a met now ≤ k = leb-true (limit a met now) k ((and_parts (not (eqb (limit a met now) 0)) (leb (limit a met now) k) q).1) in
                 let short : suc spent < limit a met now = not_last a met spent now c t h low in (
                   omega (arith, short, high),
                   record { count = 0; within = answered-within f (shown true q); same = λ z. absurd (true≢false (sym q ∙ sym (still-serves now after (count_at now) e) ∙ z)) },
                 )
             go false q =
                 let both = unanswered-within f (shown false q) in (
-                  subst (λ (n : ℕ). suc n < k) (w.same q) (ltb-true (suc w.count) k (and-fst (ltb (suc w.count) k) _ both)),
-                  record { count = suc w.count; within = and-snd (ltb (suc w.count) k) _ both; same = λ z. ap suc (w.same q) },
+                  subst (λ (n : ℕ). suc n < k) (w.same q) (ltb-true (suc w.count) k ((and_parts (ltb (suc w.count) k) _ both).0)),
+                  record { count = suc w.count; within = (and_parts (ltb (suc w.count) k) _ both).1; same = λ z. ap suc (w.same q) },
                 )
 
         moves-within : hears now ≡ true → (0 < k) × Within 0 after ls
@@ -128,10 +124,10 @@ module _ (a : Account) (met : Machine) where
                     ∙ h
 
                 some : not (eqb (limit a met now) 0) ≡ true
-                some = and-fst (not (eqb (limit a met now) 0)) _ last
+                some = (and_parts (not (eqb (limit a met now) 0)) _ last).0
 
                 high : limit a met now ≤ k
-                high = small (leb-true (limit a met now) _ (and-snd (not (eqb (limit a met now) 0)) _ last)) (t (above (limit a met now) some))
+                high = small (leb-true (limit a met now) _ ((and_parts (not (eqb (limit a met now) 0)) _ last).1)) (t (above (limit a met now) some))
                   where
                     small : limit a met now ≤ (account now).polls + 1 → (account now).polls ≡ spent → limit a met now ≤ k
                     small x y = omega (arith, x, y, s)
@@ -161,7 +157,7 @@ module _ (a : Account) (met : Machine) where
       test n = not (in_w a met n) || not (eqb (limit_at met n) 0)
 
       low : id < no_id
-      low = live-lt met id (may-live met id (and-snd (asks a.kind a.target id || tells a.kind) (may_be_messaged met id) w))
+      low = live-lt met id (may-live met id ((and_parts (asks a.kind a.target id || tells a.kind) (may_be_messaged met id) w).1))
 
   pub limits-on-time : ((id : ℕ) → in_w a met id ≡ true → 1 ≤ limit_at met id) → OnTime a met (limit_at met) (λ spent now ls. Unit {0})
   limits-on-time each = record {
@@ -180,7 +176,7 @@ module _ (a : Account) (met : Machine) where
       → due (waited_at place) + ahead a met due place ≤ sum_below no_id (λ id. elim (in_w a met id) [ true ↦ due id | false ↦ 0 ])
   unfolding left
   first-due due m before place w s =
-      omega (arith, left_less a met due m before place w s, sum-le no_id (left a met before) (in_w a met) due (λ id e. and-fst (in_w a met id) _ e))
+      omega (arith, left_less a met due m before place w s, sum-le no_id (left a met before) (in_w a met) due (λ id e. (and_parts (in_w a met id) _ e).0))
 
   pub due-by-k : (k : ℕ) (m : Machine) (before place : Place) → NoneWoken met m → Sent m a.kind a.target (to_come a.kind a.target before) place
       → k + ahead a met (λ id. k) place ≤ size_of_w a met * k

@@ -1,10 +1,7 @@
 -- Along a list of events: as long as the account has not ended the machine follows it, and no cell has woken since the call. An account that has
 -- ended stays ended, so that it goes on before every moment at which it still does. Assumes nothing.
-use mathlib.Core.Bool.{Bool, true, false, ◌&&◌, true≢false, false≢true}
-use mathlib.Core.Path.{◌≡◌, refl, sym, ap, ◌∙◌, subst}
-use mathlib.Core.List.{List, [], ◌∷◌}
-use Prim.Native.Nat.{ℕ}
-use lib.Dec.{eqb}
+use Rattle.std.proofs.Common.{Bool, true, false, ◌&&◌, true≢false, ◌≡◌, refl, sym, ap, ◌∙◌, subst, List, [], ◌∷◌, ℕ, eqb}
+use Rattle.std.proofs.lemmas.Bool.{false≢true}
 use Rattle.base.proofs.Tests.{is_true, is_false}
 use Rattle.machine_state.specs.declared.Event.{Event}
 use Rattle.machine_state.specs.declared.Event.TheVariants.{Call, Store, Fault, Exit, Poll, Malformed}
@@ -32,7 +29,7 @@ pub record Along (met : Machine) (now : Moment) : Type 0 where
 
 -- an event that is no poll leaves the account where it is
 pub other-stays : (e : Event) (answer : Answer) (m : Machine) (w : Watched) → is_poll e ≡ false → (watched e answer m w).account ≡ stays w.account
-unfolding watched watched_store is_poll
+unfolding watched watched_store
 other-stays (Call cpu code a1 a2) answer m w p = refl
 other-stays (Store cpu word value) answer m w p = go (is_done answer && eqb word 1 && eqb (cpu_at m cpu).cell (waited_at w.account.place))
   where
@@ -48,7 +45,6 @@ other-stays Poll answer m w p = absurd (true≢false p)
 other-stays Malformed answer m w p = refl
 
 pub is-poll : (e : Event) → is_poll e ≡ true → e ≡ Poll
-unfolding is_poll
 is-poll (Call cpu code a1 a2) p = absurd (false≢true p)
 is-poll (Store cpu word value) p = absurd (false≢true p)
 is-poll (Fault cpu) p = absurd (false≢true p)

@@ -1,11 +1,7 @@
 -- Demand 3 is false of each wrong manager: one run on the box, computed, has a call that is left waiting, and at one of its own steps two figures
 -- that the claim says are equal and that are not. The runs are computed in one place. Assumes nothing.
-use mathlib.Core.Path.{◌≡◌, refl, sym, ap, ◌∙◌}
-use mathlib.Core.Bool.{true, false, true≢false}
-use mathlib.Core.List.{List, [], ◌∷◌, ◌++◌}
-use Prim.Native.Nat.{ℕ, ◌+◌}
-use lib.Dec.{eqb, eqb_refl}
-use lib.IntN.{pos, negsuc}
+use Rattle.std.proofs.Common.{◌≡◌, refl, sym, ap, ◌∙◌, true, false, true≢false, List, [], ◌∷◌, ◌++◌, ℕ, ◌+◌, eqb, pos, negsuc, None, Some}
+use Rattle.std.proofs.Math.Dec.{eqb_refl}
 use Rattle.base.proofs.Tests.{is_true}
 use Rattle.base.specs.Lists as Lists
 use Rattle.base.specs.Rules as Rules
@@ -35,8 +31,7 @@ use Rattle.waiting.specs.Wrong as Wrong
 use Rattle.base.specs.Lists.{all}
 use Rattle.cell_record.specs.CellRecord.{cell_of}
 use Rattle.system_record.specs.SystemRecord.{boot_answer}
-use Rattle.machine_state.specs.declared.Waiting.{Waiting}
-use Rattle.machine_state.specs.declared.Waiting.TheVariants.{NoCall, Pending}
+use Rattle.machine_state.specs.Machine.{Waiting}
 use Rattle.machine_state.specs.declared.Answer.{Answer}
 use Rattle.machine_state.specs.declared.Answer.TheVariants.{Code, Wait, Done, Off, Bad, Stopped, Held, Denied, Idle}
 use Rattle.machine_state.specs.declared.Machine.{Machine}
@@ -84,8 +79,8 @@ is_stopped : ℕ → Machine → ℕ
 is_stopped cpu m = elim (cpu_at m cpu).stopped [ true ↦ 1 | false ↦ 0 ]
 
 count_in : Waiting → ℕ
-count_in NoCall = 0
-count_in (Pending kind stage) = stage.polls
+count_in None = 0
+count_in (Some (kind, stage)) = stage.polls
 
 count : Machine → ℕ
 count m = count_in m.waiting
@@ -208,7 +203,7 @@ record Runs : Type 0 where
   counts-unlimited : WrongCount counts_unlimited both_started destroy []
 
 runs : Runs
-unfolding Lists.all Lists.any Lists.pairwise Lists.from Lists.same Rules.first_rule CpuSet.member CpuSet.number_of CpuSet.subset CpuSet.meets CpuSet.is_empty CpuSet.union CpuSet.without CpuSet.below CpuSet.count_below CpuSet.count Fields.little_endian Fields.field Fields.zeros Fields.leading Fields.is_name Fields.padded Regions.region_of Regions.no_region Regions.whole_pages Regions.placed Regions.flags_ok Regions.comm_ok Regions.overlap Regions.inside Regions.overlap_virt Regions.overlap_phys Regions.apart Regions.clear_of Regions.inside_phys Tables.region_at Tables.regions_of Tables.table_of SystemRecord.system_of SystemRecord.system_form SystemRecord.boot_region_ok SystemRecord.system_valid SystemRecord.out_of_range SystemRecord.overdrawn SystemRecord.boot_answer SystemRecord.read_system CellRecord.cell_of CellRecord.version_ok CellRecord.limit_ok CellRecord.cell_form CellRecord.cell_region_ok CellRecord.cell_valid CellRecord.cell_answer CellRecord.read_cell Machine.fresh_cpu Machine.no_comm Machine.no_cell Machine.first_machine Machine.power_after Machine.boot_of Room.region Room.box Room.cell_record Room.search Room.limited_search Room.notes Run.after Room.booted State.first State.has_id State.active State.waits State.with_waiting State.with_power State.with_pool State.with_ids State.with_root_cpus State.with_cell State.with_comm State.with_cpus State.answered Unobeyed.is_on Unobeyed.store_denied Unobeyed.unobeyed Queries.get_info Queries.get_state Queries.cpu_get_info Create.other_cell_locked Create.invalid Create.name_in_use Create.conflict Create.conflicts Create.region_in_use Create.busy Create.free_id Create.no_room Effects.bump Effects.count_exit Effects.counted Effects.store_word Effects.stored Effects.fail_cpu Effects.all_failed Effects.cell_failed Effects.faulted Effects.change_in Effects.change_cpus Effects.cpus_changed Effects.start_cpu Effects.stop_cpu Effects.add_id Effects.drop_id Effects.new_cell Effects.new_comm Effects.cell_created Effects.with_phase Effects.in_phase Effects.clear_words Effects.cell_started Effects.cell_loadable Effects.cell_cut_off Effects.cell_destroyed Effects.all_destroyed Effects.disabled Effects.effect Asking.may_be_messaged Asking.next_to_message Asking.asks Asking.tells Asking.is_destroy Asking.message Asking.wait_for Asking.finished Asking.end_code Asking.tell Asking.carry_out Asking.none_to_ask Asking.ask Asking.is_heard Asking.consents Asking.hear Asking.is_last_poll Asking.polls_after Asking.with_polls Asking.cuts_off Asking.hears_at Asking.heard_at Asking.still_waits Asking.poll_cell Asking.poll Calls.disable_call Calls.create_call Calls.target_call Calls.call_by_code Calls.call Step.obeyed Step.step CommRegion.bytes Answers.is_negative Answers.is_wait Account.next_shown Account.unused_id Account.about_cell Account.last_code Account.tell_on Account.effect_comes Account.lock_shown Account.none_left_to_ask Account.ask_on Account.begun Account.cell_shown Account.failed_shown Account.unheard_at Account.heard_by Account.consents_by Account.polled_at Account.polled Account.answer_at Account.ended_at Account.waited_at Observer.shown_from Observer.kind_of_code Observer.target_of Observer.watched_call Observer.watched_poll Observer.is_done Observer.watched_store Observer.watched Run.is_poll Steps.at_call Steps.next Steps.moment_after Steps.cell_of_place Steps.messaged_with Steps.messaged_in Steps.times_with Steps.times_in number live_in live is_stopped count_in count to from met called begun then at_poll polled destroy disable consent denial Steps.messaged_at Steps.account_effect Steps.cut_from Steps.move_of Steps.cell_table_of Wrong.changed Wrong.leaving Wrong.waited_cell Wrong.effect_first Wrong.ends_early Wrong.reply_kept Wrong.stale_reply Wrong.asks_on Wrong.denial_consents Wrong.carries_out Wrong.locks_before Wrong.messages_twice Wrong.changes_back Wrong.tells_on Wrong.tells_first Wrong.waits_on Wrong.never_cuts_off Wrong.runs_on Wrong.leaves_running Wrong.cuts_anyway Wrong.loses_reply Wrong.counts_unlimited
+unfolding Lists.pairwise Lists.from Rules.first_rule CpuSet.member CpuSet.number_of CpuSet.subset CpuSet.meets CpuSet.is_empty CpuSet.union CpuSet.without CpuSet.below CpuSet.count_below CpuSet.count Fields.little_endian Fields.field Fields.is_name Fields.padded Regions.region_of Regions.no_region Regions.whole_pages Regions.placed Regions.flags_ok Regions.comm_ok Regions.overlap Regions.inside Regions.overlap_virt Regions.overlap_phys Regions.apart Regions.clear_of Regions.inside_phys Tables.region_at Tables.regions_of Tables.table_of SystemRecord.system_of SystemRecord.system_form SystemRecord.boot_region_ok SystemRecord.system_valid SystemRecord.out_of_range SystemRecord.overdrawn SystemRecord.boot_answer SystemRecord.read_system CellRecord.cell_of CellRecord.version_ok CellRecord.limit_ok CellRecord.cell_form CellRecord.cell_region_ok CellRecord.cell_valid CellRecord.cell_answer CellRecord.read_cell Machine.fresh_cpu Machine.no_comm Machine.no_cell Machine.first_machine Machine.power_after Machine.boot_of Room.region Room.box Room.cell_record Room.search Room.limited_search Room.notes Run.after Room.booted State.first State.has_id State.active State.with_waiting State.with_power State.with_pool State.with_ids State.with_root_cpus State.with_cell State.with_comm State.with_cpus State.answered Unobeyed.store_denied Unobeyed.unobeyed Queries.get_info Queries.get_state Queries.cpu_get_info Create.other_cell_locked Create.invalid Create.name_in_use Create.conflict Create.conflicts Create.region_in_use Create.busy Create.free_id Create.no_room Effects.bump Effects.count_exit Effects.counted Effects.store_word Effects.stored Effects.fail_cpu Effects.all_failed Effects.cell_failed Effects.faulted Effects.change_in Effects.change_cpus Effects.cpus_changed Effects.start_cpu Effects.stop_cpu Effects.add_id Effects.drop_id Effects.new_cell Effects.new_comm Effects.cell_created Effects.with_phase Effects.in_phase Effects.clear_words Effects.cell_started Effects.cell_loadable Effects.cell_cut_off Effects.cell_destroyed Effects.all_destroyed Effects.disabled Effects.effect Asking.may_be_messaged Asking.next_to_message Asking.asks Asking.message Asking.wait_for Asking.finished Asking.end_code Asking.tell Asking.carry_out Asking.none_to_ask Asking.ask Asking.is_heard Asking.consents Asking.hear Asking.is_last_poll Asking.polls_after Asking.with_polls Asking.cuts_off Asking.hears_at Asking.heard_at Asking.still_waits Asking.poll_cell Asking.poll Calls.disable_call Calls.create_call Calls.target_call Calls.call_by_code Calls.call Step.obeyed Step.step CommRegion.bytes Answers.is_negative Answers.is_wait Account.next_shown Account.unused_id Account.about_cell Account.last_code Account.tell_on Account.effect_comes Account.lock_shown Account.none_left_to_ask Account.ask_on Account.begun Account.cell_shown Account.failed_shown Account.unheard_at Account.heard_by Account.consents_by Account.polled_at Account.polled Account.answer_at Account.ended_at Account.waited_at Observer.shown_from Observer.kind_of_code Observer.target_of Observer.watched_call Observer.watched_poll Observer.is_done Observer.watched_store Observer.watched Steps.at_call Steps.next Steps.moment_after Steps.cell_of_place Steps.messaged_with Steps.messaged_in Steps.times_with Steps.times_in number live_in live is_stopped count_in count to from met called begun then at_poll polled destroy disable consent denial Steps.messaged_at Steps.account_effect Steps.cut_from Steps.move_of Steps.cell_table_of Wrong.changed Wrong.leaving State.waited_for Wrong.effect_first Wrong.ends_early Wrong.reply_kept Wrong.stale_reply Wrong.asks_on Wrong.denial_consents Wrong.carries_out Wrong.locks_before Wrong.messages_twice Wrong.changes_back Wrong.tells_on Wrong.tells_first Wrong.waits_on Wrong.never_cuts_off Wrong.runs_on Wrong.leaves_running Wrong.cuts_anyway Wrong.loses_reply Wrong.counts_unlimited
 runs = record {
   effect-first = record { waits = record { accepted = refl; left = refl; still = refl }; none = refl; wrong = refl };
   ends-early = record { waits = record { accepted = refl; left = refl; still = refl }; wrong = refl };

@@ -1,15 +1,10 @@
 -- What the observer shows of a machine's live cells tells the account what the rules read from the machine: the next cell to message, a lock, a
 -- free ID, a live cell's state. Each follows by going through the IDs in their order. Assumes nothing.
-use mathlib.Core.Bool.{Bool, true, false, not, ◌&&◌, ◌||◌, and-false, and_assoc, true≢false, false≢true}
-use mathlib.Core.Path.{◌≡◌, refl, sym, ap, ap₂, ◌∙◌}
-use mathlib.Core.List.{List, [], ◌∷◌}
-use Prim.Native.Nat.{ℕ, zero, suc, ◌+◌, ◌<◌, ◌≤◌}
-use native.Mathlib.Decide.{ℕ_discrete}
-use native.Mathlib.Omega.{arith}
-use borrow.Author.Tests.{eq-eqb, ne_eqb, eqb-true, ltb-true}
-use lib.Dec.{ltb, eqb, eqb-suc-zero}
-use lib.ListN.{length, get_or, set}
-use lib.Seq.{get_or-set_same, get_or-set_other}
+use Rattle.std.proofs.Common.{Bool, true, false, not, ◌&&◌, ◌||◌, true≢false, ◌≡◌, refl, sym, ap, ap₂, ◌∙◌, List, [], ◌∷◌, ℕ, zero, suc, ◌+◌, ◌<◌, ◌≤◌, arith, eq-eqb, ne_eqb, eqb-true, ltb-true, ltb, eqb, length, get_or, set, get_or-set_same, get_or-set_other}
+use Rattle.std.proofs.lemmas.Bool.{false≢true}
+use Rattle.std.proofs.Math.Bool.{and-false, and_assoc}
+use Rattle.std.proofs.Math.Decide.{ℕ_discrete}
+use Rattle.std.proofs.Math.Dec.{eqb-suc-zero}
 use Rattle.base.specs.Lists.{any, from}
 use Rattle.cpu_set.specs.CpuSet.{bit}
 use Rattle.machine_state.specs.declared.CommRegion.{CommRegion}
@@ -77,7 +72,7 @@ final-unlocked s = go (eqb s 1) refl
 lock-from : (m : Machine) (target k n : ℕ)
     → any (λ (s : Shown). not (eqb s.id target) && is_locked s.state) (shown_from m (from (suc k) n))
     ≡ any (λ id. active m id && not (eqb id target) && is_locked (state_at m id)) (from (suc k) n)
-unfolding any shown_from from
+unfolding shown_from from
 lock-from m target k zero = refl
 lock-from m target k (suc n) =
     go (live m (suc k)) (lock-from m target (suc k) n)
@@ -190,7 +185,7 @@ shown_is id s = eqb s.id id
 
 -- an ID of the list is among those shown where it is live
 unused-from : (m : Machine) (id k n : ℕ) → live m id ≡ false → any (shown_is id) (shown_from m (from k n)) ≡ false
-unfolding any shown_from from
+unfolding shown_from from
 unused-from m id k zero v = refl
 unused-from m id k (suc n) v = go (live m k) refl (ℕ_discrete k id) (unused-from m id (suc k) n v)
   where
@@ -201,7 +196,7 @@ unused-from m id k (suc n) v = go (live m k) refl (ℕ_discrete k id) (unused-fr
     go false e d f = f
 
 used-from : (m : Machine) (id k n : ℕ) → k ≤ id → id < k + n → live m id ≡ true → any (shown_is id) (shown_from m (from k n)) ≡ true
-unfolding any shown_from from
+unfolding shown_from from
 used-from m id k zero l h v = absurd (omega arith)
 used-from m id k (suc n) l h v = go (live m k) refl (ℕ_discrete k id) (λ l'. used-from m id (suc k) n l' (omega arith) v)
   where

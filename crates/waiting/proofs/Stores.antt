@@ -1,14 +1,10 @@
 -- An event of others, as the observer sees it; a store. A store that is not denied is to a cell with its words and to a state that is not final: it
 -- wakes nobody, and the observer's reply follows the waited cell's `from`. Assumes nothing.
-use mathlib.Core.Bool.{Bool, true, false, not, ◌&&◌, ◌||◌, and-true, and-false, true≢false}
-use mathlib.Core.Path.{◌≡◌, refl, sym, ap, ◌∙◌}
-use mathlib.Core.Logic.{◌⊎◌, inl, inr}
-use Prim.Native.Nat.{ℕ, zero, suc, ◌<◌, ◌≤◌}
-use native.Mathlib.Decide.{ℕ_discrete}
-use native.Mathlib.Omega.{arith}
-use borrow.Author.Tests.{eq-eqb, ne_eqb, ltb-false, not-false}
-use lib.Dec.{ltb, eqb}
-use lib.ListN.{length, get_or-eq_default}
+use Rattle.std.proofs.Common.{Bool, true, false, not, ◌&&◌, ◌||◌, true≢false, ◌≡◌, refl, sym, ap, ◌∙◌, ◌⊎◌, inl, inr, ℕ, zero, suc, ◌<◌, ◌≤◌, arith, eq-eqb, ne_eqb, ltb-false, ltb, eqb, length}
+use Rattle.std.proofs.lemmas.Bool.{not-false, or_parts}
+use Rattle.std.proofs.Math.Bool.{and-true, and-false}
+use Rattle.std.proofs.Math.Decide.{ℕ_discrete}
+use Rattle.std.proofs.Math.ListN.{get_or-eq_default}
 use Rattle.base.proofs.Tests.{le-or-lt}
 use Rattle.machine_state.specs.declared.CommRegion.{CommRegion}
 use Rattle.machine_state.specs.declared.Event.{Event}
@@ -24,7 +20,7 @@ use Rattle.rules.specs.Effects.{store_word, stored}
 use Rattle.rules.specs.Account.{waited_at}
 use Rattle.rules.specs.Observer.{Watched, watched_other, watched_store, watched, is_done}
 use Rattle.rules.specs.Answers.{is_wait}
-use Rattle.waiting.proofs.Machines.{comm-same, comm-other, or_fst, or_snd}
+use Rattle.waiting.proofs.Machines.{comm-same, comm-other}
 use Rattle.waiting.proofs.Kept.{Kept, kept-words}
 
 -- ---- what holds of an event of others: the step s from the machine m
@@ -65,18 +61,18 @@ module _ (cpu word value : ℕ) (m : Machine) (allowed : store_denied cpu word m
 
   up_to_word : (eqb cell 0 || not (comm_at m cell).mapped || ltb 2 word) ≡ false
   unfolding store_denied
-  up_to_word = or_fst (eqb cell 0 || not (comm_at m cell).mapped || ltb 2 word) to_final allowed
+  up_to_word = (or_parts (eqb cell 0 || not (comm_at m cell).mapped || ltb 2 word) to_final allowed).0
 
   not-final : eqb word 2 ≡ true → is_final (state_at m cell) ≡ false
   unfolding store_denied
   not-final e =
-      sym (ap (λ (b : Bool). b && is_final (state_at m cell)) e) ∙ or_snd (eqb cell 0 || not (comm_at m cell).mapped || ltb 2 word) to_final allowed
+      sym (ap (λ (b : Bool). b && is_final (state_at m cell)) e) ∙ (or_parts (eqb cell 0 || not (comm_at m cell).mapped || ltb 2 word) to_final allowed).1
 
   word_small : ltb 2 word ≡ false
-  word_small = or_snd (eqb cell 0 || not (comm_at m cell).mapped) (ltb 2 word) up_to_word
+  word_small = (or_parts (eqb cell 0 || not (comm_at m cell).mapped) (ltb 2 word) up_to_word).1
 
   mapped : (comm_at m cell).mapped ≡ true
-  mapped = not-false _ (or_snd (eqb cell 0) (not (comm_at m cell).mapped) (or_fst (eqb cell 0 || not (comm_at m cell).mapped) (ltb 2 word) up_to_word))
+  mapped = not-false _ ((or_parts (eqb cell 0) (not (comm_at m cell).mapped) ((or_parts (eqb cell 0 || not (comm_at m cell).mapped) (ltb 2 word) up_to_word).0)).1)
 
   inside : cell < length m.comms
   inside = go (le-or-lt (length m.comms) cell)

@@ -1,15 +1,8 @@
 -- Where the account goes when it moves on: to a cell that the machine shows as one that may be messaged and that was still to come, past all that
 -- it has messaged; with the effect where none is left to ask; or to its end. Each follows from the search for the next cell. Assumes nothing.
-use mathlib.Core.Bool.{Bool, true, false, ◌&&◌, ◌||◌, or-true, true≢false, false≢true}
-use mathlib.Core.Path.{◌≡◌, refl, sym, ap, ◌∙◌, subst}
-use mathlib.Core.Logic.{◌⊎◌, inl, inr}
-use Prim.Native.Nat.{ℕ, ◌+◌, ◌<◌}
-use mathlib.Core.List.{List}
-use native.Mathlib.Omega.{arith}
-use borrow.Author.Tests.{ltb-true, lt-ltb}
-use lib.Dec.{ltb}
-use lib.IntN.{pos}
-use lib.ListN.{length}
+use Rattle.std.proofs.Common.{Bool, true, false, ◌&&◌, ◌||◌, true≢false, ◌≡◌, refl, sym, ap, ◌∙◌, subst, ◌⊎◌, inl, inr, ℕ, ◌+◌, ◌<◌, List, arith, ltb-true, lt-ltb, ltb, pos, length, Option, None, Some}
+use Rattle.std.proofs.lemmas.Bool.{and_parts, false≢true}
+use Rattle.std.proofs.Math.Bool.{or-true}
 use Rattle.base.specs.Rules.{EPERM}
 use Rattle.base.proofs.Tests.{is_true, is_false}
 use Rattle.machine_state.specs.declared.CallKind.{CallKind}
@@ -18,13 +11,13 @@ use Rattle.machine_state.specs.declared.Machine.{Machine}
 use Rattle.rules.specs.State.{cell_ids, no_id, first}
 use Rattle.rules.specs.Effects.{cell_cut_off}
 use Rattle.rules.specs.Asking.{may_be_messaged, next_to_message, asks, tells, is_destroy, is_last_poll, polls_after}
-use Rattle.rules.specs.Account.{Shown, CutOff, NoneCut, WasCut, Account, Place, Asks, Tells, Ended, moves_to, cutting, stays_with, remains, next_shown, last_code, tell_on, effect_comes, lock_shown, none_left_to_ask, ask_on, heard_by, consents_by, state_shown, limit_shown, failed_shown, unheard_at, polled_at, polled, waited_at}
+use Rattle.rules.specs.Account.{Shown, Account, Place, Asks, Tells, Ended, moves_to, cutting, stays_with, remains, next_shown, last_code, tell_on, effect_comes, lock_shown, none_left_to_ask, ask_on, heard_by, consents_by, state_shown, limit_shown, failed_shown, unheard_at, polled_at, polled, waited_at}
 use Rattle.rules.specs.Observer.{shown_by}
-use Rattle.rules.proofs.Ids.{by-test, Found, None, first-from}
+use Rattle.rules.proofs.Ids.{by-test, Search, first-from}
 use Rattle.waiting.specs.Steps.{cut_from, times_with}
 use Rattle.waiting.specs.Demand3.{times_due}
 use Rattle.waiting.proofs.Shown.{next-shown, failed-shown, live-lt}
-use Rattle.waiting.proofs.Machines.{AllWords, NoneWoken, cut-woken, and-fst, and-snd}
+use Rattle.waiting.proofs.Machines.{AllWords, NoneWoken, cut-woken}
 use Rattle.waiting.proofs.Moves.{Heeds, AtPlace}
 
 -- ---- the cells still to come
@@ -66,7 +59,7 @@ ask-further kind target after c id e h = go (asks kind target id) (ltb c id) ref
 all_tell : (kind : CallKind) (target after id : ℕ) → tell_ahead kind target 0 id ≡ true → ask_ahead kind target after id ≡ true
 unfolding tell_ahead ask_ahead
 all_tell kind target after id h =
-    rw (and-fst (tells kind && remains target id) (ltb 0 id) h) (or-true (asks kind target id && ltb after id))
+    rw ((and_parts (tells kind && remains target id) (ltb 0 id) h).0) (or-true (asks kind target id && ltb after id))
 
 next-ask : (kind : CallKind) (target after id : ℕ) → asks kind target id ≡ true → ltb after id ≡ true → ask_ahead kind target after id ≡ true
 unfolding ask_ahead
@@ -90,11 +83,11 @@ next-cell among after m h = subst (NextCell among after m) (sym (next-shown m am
     next : ℕ
     next = first test cell_ids
 
-    go : Found test 1 15 next ⊎ (None test 1 15 × (next ≡ no_id)) → NextCell among after m next
+    go : Search test 1 15 next → NextCell among after m next
     go (inl f) = record {
-      passes = and-snd (ltb after next) (among next) (and-fst (ltb after next && among next) (may_be_messaged m next) f.passes);
-      above = and-fst (ltb after next) (among next) (and-fst (ltb after next && among next) (may_be_messaged m next) f.passes);
-      may = and-snd (ltb after next && among next) (may_be_messaged m next) f.passes;
+      passes = (and_parts (ltb after next) (among next) ((and_parts (ltb after next && among next) (may_be_messaged m next) f.passes).0)).1;
+      above = (and_parts (ltb after next) (among next) ((and_parts (ltb after next && among next) (may_be_messaged m next) f.passes).0)).0;
+      may = (and_parts (ltb after next && among next) (may_be_messaged m next) f.passes).1;
     }
     go (inr f) = absurd (true≢false (sym h ∙ ap (λ (n : ℕ). ltb n no_id) (next-shown m among after ∙ f.1)))
 
@@ -223,7 +216,7 @@ module _ (m : Machine) (kind : CallKind) (target : ℕ) where
 
 -- where it went when the cell waited for was heard: as it goes on the machine on which it was
 pub record Heard (m : Machine) (kind : CallKind) (target : ℕ) (before : ℕ → Bool) (times : ℕ) (b : Account) : Type 0 where
-  pub cut : CutOff
+  pub cut : Option ℕ
   pub bare : Account
   pub same : b ≡ cutting cut bare
   pub went : Went (cut_from cut m) kind target before times bare
@@ -233,13 +226,13 @@ heard-whole : (m : Machine) (kind : CallKind) (target : ℕ) (before : ℕ → B
     → Went m kind target before times b → Heard m kind target before times b
 unfolding cut_from
 heard-whole m kind target before times b g =
-    record { cut = NoneCut; bare = b; same = ap (λ (a : Account). cutting a.cut b) g.same; went = g }
+    record { cut = None; bare = b; same = ap (λ (a : Account). cutting a.cut b) g.same; went = g }
 
 -- with the cell c cut off
 heard-cut : (c : ℕ) (m : Machine) (kind : CallKind) (target : ℕ) (before : ℕ → Bool) (times : ℕ) (b : Account)
-    → Went (cell_cut_off c m) kind target before times b → Heard m kind target before times (cutting (WasCut c) b)
+    → Went (cell_cut_off c m) kind target before times b → Heard m kind target before times (cutting (Some c) b)
 unfolding cut_from
-heard-cut c m kind target before times b g = record { cut = WasCut c; bare = b; same = refl; went = g }
+heard-cut c m kind target before times b g = record { cut = Some c; bare = b; same = refl; went = g }
 
 module _ (m : Machine) (kind : CallKind) (target : ℕ) where
   -- the cell waited for shows a reply or a final state, or its limit has it heard
@@ -271,17 +264,17 @@ module _ (m : Machine) (kind : CallKind) (target : ℕ) where
     inside c reply w = subst (λ (n : ℕ). c < n) (sym h) (live-lt m c w.alive)
 
     asks-cut : (c reply : ℕ) → Heeds m c reply
-        → Heard m kind target (ask_ahead kind target c) 0 (cutting (WasCut c) (ask_on kind target c (failed_shown c (shown_by m))))
+        → Heard m kind target (ask_ahead kind target c) 0 (cutting (Some c) (ask_on kind target c (failed_shown c (shown_by m))))
     asks-cut c reply w =
-        subst (λ (shown : List Shown). Heard m kind target (ask_ahead kind target c) 0 (cutting (WasCut c) (ask_on kind target c shown)))
+        subst (λ (shown : List Shown). Heard m kind target (ask_ahead kind target c) 0 (cutting (Some c) (ask_on kind target c shown)))
         (sym (failed-shown m c (inside c reply w)))
         (heard-cut c m kind target (ask_ahead kind target c) 0 (ask_on kind target c (shown_by (cell_cut_off c m))) (ask-went (cell_cut_off c m) kind target c))
 
     tells-cut : (c reply : ℕ) → Heeds m c reply → tells kind ≡ true → may_be_messaged m target ≡ false
-        → Heard m kind target (tell_ahead kind target c) 1 (cutting (WasCut c) (tell_on kind target false c (failed_shown c (shown_by m))))
+        → Heard m kind target (tell_ahead kind target c) 1 (cutting (Some c) (tell_on kind target false c (failed_shown c (shown_by m))))
     unfolding NoneWoken times
     tells-cut c reply w k e =
-        subst (λ (shown : List Shown). Heard m kind target (tell_ahead kind target c) 1 (cutting (WasCut c) (tell_on kind target false c shown)))
+        subst (λ (shown : List Shown). Heard m kind target (tell_ahead kind target c) 1 (cutting (Some c) (tell_on kind target false c shown)))
         (sym (failed-shown m c (inside c reply w)))
         (heard-cut c m kind target (tell_ahead kind target c) 1 (tell_on kind target false c (shown_by (cell_cut_off c m)))
         (tell-went (cell_cut_off c m) kind target false c (tell_ahead kind target c) 1 k
@@ -293,9 +286,9 @@ module _ (m : Machine) (kind : CallKind) (target : ℕ) where
     poll-at-went (Asks c) a reply e f w k =
         by-hearing (Asks c) reply a (heard_by reply state) (is_last_poll (limit_shown c (shown_by m)) a.polls)
         (elim (consents_by reply state) [ true ↦ ask_on a.kind a.target c (shown_by m) | false ↦ moves_to a.kind a.target false (Ended EPERM) ])
-        (cutting (WasCut c) (ask_on a.kind a.target c (failed_shown c (shown_by m)))) refl refl
+        (cutting (Some c) (ask_on a.kind a.target c (failed_shown c (shown_by m)))) refl refl
         (λ t. by-test Here (consents_by reply state) _ _ (λ d. of-call (λ i j. ask_on i j c (shown_by m)) asked) (λ d. of-call (λ i j. moves_to i j false (Ended EPERM)) denied))
-        (λ t. of-call (λ i j. cutting (WasCut c) (ask_on i j c (failed_shown c (shown_by m)))) (asks-cut c reply w))
+        (λ t. of-call (λ i j. cutting (Some c) (ask_on i j c (failed_shown c (shown_by m)))) (asks-cut c reply w))
       where
         state : ℕ
         state = state_shown c (shown_by m)
@@ -313,9 +306,9 @@ module _ (m : Machine) (kind : CallKind) (target : ℕ) where
         denied = heard-whole m kind target (ask_ahead kind target c) 0 _ (record { effect = false; place = Ended EPERM; same = refl; fit = tt; due = refl })
     poll-at-went (Tells c) a reply e f w k =
         by-hearing (Tells c) reply a (heard_by reply (state_shown c (shown_by m))) (is_last_poll (limit_shown c (shown_by m)) a.polls)
-        (tell_on a.kind a.target false c (shown_by m)) (cutting (WasCut c) (tell_on a.kind a.target false c (failed_shown c (shown_by m)))) refl refl
+        (tell_on a.kind a.target false c (shown_by m)) (cutting (Some c) (tell_on a.kind a.target false c (failed_shown c (shown_by m)))) refl refl
         (λ t. of-call (λ i j. tell_on i j false c (shown_by m)) told)
-        (λ t. of-call (λ i j. cutting (WasCut c) (tell_on i j false c (failed_shown c (shown_by m)))) (tells-cut c reply w.0 k w.1))
+        (λ t. of-call (λ i j. cutting (Some c) (tell_on i j false c (failed_shown c (shown_by m)))) (tells-cut c reply w.0 k w.1))
       where
         Here : Account → Type 0
         Here b = Heard m kind target (tell_ahead kind target c) 1 b

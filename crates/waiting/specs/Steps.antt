@@ -1,19 +1,18 @@
 -- The steps of a list of events after a call, and the account beside them. Demand 3: "Take every list of events (calls, stores, faults, exits,
 -- polls, malformed and unobeyed ones included) .. Each event meets the machine that the last one left". The account is fed by its observer
 -- (`rules`, Account and Observer), which never sees the waiting call.
-use Rattle.std.specs.Prelude.{Bool, true, false, not, ◌&&◌, ◌||◌, List, [], ◌∷◌, ◌++◌, map, ℕ, suc, ◌+◌, leb, ltb, eqb}
+use Rattle.std.specs.Prelude.{Bool, true, false, not, ◌&&◌, ◌||◌, List, [], ◌∷◌, ◌++◌, map, ℕ, suc, ◌+◌, leb, ltb, eqb, Option, None, Some}
 use Rattle.cell_record.specs.declared.CellConfig.{CellConfig}
 use Rattle.machine_state.specs.declared.Cpu.{Cpu}
 use Rattle.machine_state.specs.declared.Cell.{Cell}
 use Rattle.machine_state.specs.declared.Power.{Power}
-use Rattle.machine_state.specs.declared.Waiting.TheVariants.{NoCall}
 use Rattle.machine_state.specs.declared.Event.{Event}
-use Rattle.machine_state.specs.declared.Event.TheVariants.{Call, Store, Fault, Exit, Poll, Malformed}
+use Rattle.machine_state.specs.declared.Event.TheVariants.{Call, Poll}
 use Rattle.machine_state.specs.declared.Machine.{Machine}
 use Rattle.rules.specs.State.{comm_at, with_comm, with_waiting}
 use Rattle.rules.specs.Effects.{counted, call_counter, effect, cell_cut_off}
 use Rattle.rules.specs.Asking.{message, shutdown_request, reconfig_completed}
-use Rattle.rules.specs.Account.{Account, CutOff, NoneCut, WasCut, Place, Asks, Tells, Ended, ended_at, waited_at, heard_by, state_shown, limit_shown}
+use Rattle.rules.specs.Account.{Account, Place, Asks, Tells, Ended, ended_at, waited_at, heard_by, state_shown, limit_shown}
 use Rattle.rules.specs.Observer.{Watched, watched_call, watched, shown_by}
 use Rattle.rules.specs.Run.{Line, Manager, happens, is_poll}
 
@@ -70,9 +69,9 @@ messaged_at (Ended code) m = m
 
 -- the account's last move on a machine: the cell that its limit cut off, if any; then the effect's rule, if it came with it; then the message, if
 -- it moved. `new` is Create's cell
-unfoldable pub cut_from : CutOff → Machine → Machine
-cut_from NoneCut m = m
-cut_from (WasCut c) m = cell_cut_off c m
+unfoldable pub cut_from : Option ℕ → Machine → Machine
+cut_from None m = m
+cut_from (Some c) m = cell_cut_off c m
 
 unfoldable pub account_effect : Account → CellConfig → Machine → Machine
 account_effect a new m = elim a.effect [ true ↦ effect a.kind a.target new m | false ↦ m ]
@@ -84,15 +83,11 @@ move_of a new m =
 -- "An obeyed call .. first adds one to its own counter and the total of that CPU"
 unfoldable pub counted_for : Event → Machine → Machine
 counted_for (Call cpu code a1 a2) m = counted call_counter cpu m
-counted_for (Store cpu word value) m = m
-counted_for (Fault cpu) m = m
-counted_for (Exit cpu kind) m = m
-counted_for Poll m = m
-counted_for Malformed m = m
+counted_for _ m = m
 
 -- the machine but for the field that holds the waiting call
 abbrev pub but_waiting : Machine → Machine
-but_waiting m = with_waiting NoCall m
+but_waiting m = with_waiting None m
 
 -- "live cells, phases, CPU owners or pool use": the table, with whether the machine is on
 pub record CellTable : Type 0 where

@@ -2,13 +2,13 @@
 -- the claim is false. Document 01, "What a reader must rely on" and "Errors a good engineer makes".
 use Rattle.std.specs.Prelude.{Bool, true, false, not, ◌&&◌, List, ℕ, eqb, pos}
 use Rattle.cell_record.specs.CellRecord.{cell_of}
-use Rattle.machine_state.specs.declared.Waiting.{Waiting}
-use Rattle.machine_state.specs.declared.Waiting.TheVariants.{NoCall, Pending}
+use Rattle.machine_state.specs.Machine.{Waiting}
+use Rattle.std.specs.Prelude.{None, Some}
 use Rattle.machine_state.specs.declared.Answer.TheVariants.{Wait}
-use Rattle.machine_state.specs.declared.Event.TheVariants.{Call, Store, Fault, Exit, Poll, Malformed}
+use Rattle.machine_state.specs.declared.Event.TheVariants.{Call, Poll}
 use Rattle.machine_state.specs.declared.Machine.{Machine}
 use Rattle.machine_state.specs.declared.Stepped.{Stepped}
-use Rattle.rules.specs.State.{comm_at, limit_at, with_comm, with_cpus, with_waiting, answered}
+use Rattle.rules.specs.State.{comm_at, limit_at, with_comm, with_cpus, with_waiting, waited_for, answered}
 use Rattle.rules.specs.Answers.{is_negative, is_wait}
 use Rattle.rules.specs.Effects.{with_message, with_reply, cell_destroyed, cell_cut_off}
 use Rattle.rules.specs.Asking.{message, shutdown_request, consents, is_destroy, tell, carry_out, ask, finished, hear, is_last_poll, with_polls, cuts_off, still_waits}
@@ -19,11 +19,8 @@ use Rattle.rules.specs.Run.{Manager}
 -- our step, changed at calls (code, first argument, the machine met, our step) and at polls (the record's bytes, the machine met, our step)
 unfoldable pub changed : (ℕ → ℕ → Machine → Stepped → Stepped) → (List ℕ → Machine → Stepped → Stepped) → Manager
 changed at_call at_poll (Call cpu code a1 a2) bytes m = at_call code a1 m (step (Call cpu code a1 a2) bytes m)
-changed at_call at_poll (Store cpu word value) bytes m = step (Store cpu word value) bytes m
-changed at_call at_poll (Fault cpu) bytes m = step (Fault cpu) bytes m
-changed at_call at_poll (Exit cpu kind) bytes m = step (Exit cpu kind) bytes m
 changed at_call at_poll Poll bytes m = at_poll bytes m (step Poll bytes m)
-changed at_call at_poll Malformed bytes m = step Malformed bytes m
+changed at_call at_poll e bytes m = step e bytes m
 
 abbrev pub ours_at_call : ℕ → ℕ → Machine → Stepped → Stepped
 ours_at_call code a1 m s = s
@@ -33,12 +30,8 @@ unfoldable pub leaving : Bool → Machine → Stepped → Stepped
 leaving test m s = elim test [ true ↦ answered s.answer m | false ↦ s ]
 
 -- the cell waited for; 0 where no call waits
-unfoldable pub waited_cell : Waiting → ℕ
-waited_cell NoCall = 0
-waited_cell (Pending kind stage) = stage.cell
-
 abbrev pub waited_in : Machine → ℕ
-waited_in m = waited_cell m.waiting
+waited_in m = waited_for m.waiting
 
 -- ---- "one that destroys at the first step and then only stages the polls"
 unfoldable pub effect_first : Manager
@@ -62,8 +55,8 @@ stale_reply = changed (λ code a1 m s. reply_kept m s) (λ bytes m s. reply_kept
 
 -- ---- a denial taken for consent: where the cell waited for denies, the call asks on
 unfoldable pub asks_on : Waiting → List ℕ → Machine → Stepped → Stepped
-asks_on NoCall bytes m s = s
-asks_on (Pending kind stage) bytes m s = ask kind stage.target stage.cell (cell_of bytes) m
+asks_on None bytes m s = s
+asks_on (Some (kind, stage)) bytes m s = ask kind stage.target stage.cell (cell_of bytes) m
 
 unfoldable pub denial_consents : Manager
 denial_consents =
@@ -72,8 +65,8 @@ denial_consents =
 
 -- ---- "Testing locks only before the wait": where the cell waited for consents, the effect comes
 unfoldable pub carries_out : Waiting → List ℕ → Machine → Stepped → Stepped
-carries_out NoCall bytes m s = s
-carries_out (Pending kind stage) bytes m s = carry_out kind stage.target (cell_of bytes) m
+carries_out None bytes m s = s
+carries_out (Some (kind, stage)) bytes m s = carry_out kind stage.target (cell_of bytes) m
 
 unfoldable pub locks_before : Manager
 locks_before =
@@ -95,8 +88,8 @@ changes_back =
 
 -- ---- telling before the effect: Destroy tells once its target consents, and has its effect when all are told
 unfoldable pub tells_on : Waiting → Machine → Stepped → Stepped
-tells_on NoCall m s = s
-tells_on (Pending kind stage) m s =
+tells_on None m s = s
+tells_on (Some (kind, stage)) m s =
     elim (is_destroy kind && not (is_negative s.answer)) [
       | true ↦ elim stage.telling [
         | true ↦ elim (is_wait s.answer) [ true ↦ s | false ↦ finished (pos 0) (cell_destroyed stage.target m) ]
@@ -110,22 +103,22 @@ tells_first = changed ours_at_call (λ bytes m s. tells_on m.waiting m s)
 
 -- ---- the reply limit: it never cuts a cell off; the CPUs of the cell go on running; a reply at the limit's poll is lost
 unfoldable pub waits_on : Waiting → Machine → Stepped → Stepped
-waits_on NoCall m s = s
-waits_on (Pending kind stage) m s = elim (cuts_off stage m) [ true ↦ answered (Wait stage.cell) (still_waits kind stage m) | false ↦ s ]
+waits_on None m s = s
+waits_on (Some (kind, stage)) m s = elim (cuts_off stage m) [ true ↦ answered (Wait stage.cell) (still_waits kind stage m) | false ↦ s ]
 
 unfoldable pub never_cuts_off : Manager
 never_cuts_off = changed ours_at_call (λ bytes m s. waits_on m.waiting m s)
 
 unfoldable pub runs_on : Waiting → Machine → Stepped → Stepped
-runs_on NoCall m s = s
-runs_on (Pending kind stage) m s = leaving (cuts_off stage m) (with_cpus m.cpus s.machine) s
+runs_on None m s = s
+runs_on (Some (kind, stage)) m s = leaving (cuts_off stage m) (with_cpus m.cpus s.machine) s
 
 unfoldable pub leaves_running : Manager
 leaves_running = changed ours_at_call (λ bytes m s. runs_on m.waiting m s)
 
 unfoldable pub cuts_anyway : Waiting → List ℕ → Machine → Stepped → Stepped
-cuts_anyway NoCall bytes m s = s
-cuts_anyway (Pending kind stage) bytes m s =
+cuts_anyway None bytes m s = s
+cuts_anyway (Some (kind, stage)) bytes m s =
     elim (is_last_poll (limit_at m stage.cell) stage.polls) [ true ↦ hear kind stage (cell_of bytes) (cell_cut_off stage.cell m) | false ↦ s ]
 
 unfoldable pub loses_reply : Manager
