@@ -15,12 +15,10 @@ use Rattle.cpu_set.specs.CpuSet.{count, count_below, member}
 use Rattle.fields.specs.Fields.{little_endian, field, u32}
 use Rattle.machine_state.specs.declared.CommRegion.{CommRegion}
 use Rattle.machine_state.specs.declared.Machine.{Machine}
-use Rattle.rules.specs.State.{has_id, live, comm_at}
+use Rattle.rules.specs.State.{has_id, comm_at}
 use Rattle.rules.specs.CommRegion.{bytes, layout, shown_in, sees_region, region_word, region_byte}
-use Rattle.machine_state.specs.declared.RegionWord.{RegionWord}
-use Rattle.machine_state.specs.declared.RegionWord.TheVariants as RegionWord
-use Rattle.machine_state.specs.declared.RegionByte.{RegionByte}
-use Rattle.machine_state.specs.declared.RegionByte.TheVariants as RegionByte
+use Rattle.std.proofs.Common.{Option, Some, None}
+use Rattle.std.specs.Option.{option_map}
 
 -- a number is what its bytes say
 pub number-bytes : (size n : ℕ) → n < 256 ^ size → n ≡ little_endian (bytes size n)
@@ -104,9 +102,8 @@ same_end offset =
     (le-or-lt 20 offset)
 
 -- byte k of what `region_word` gives
-abbrev pub byte_of : RegionWord → ℕ → RegionByte
-byte_of RegionWord.NoWord k = RegionByte.NoByte
-byte_of (RegionWord.Word word) k = RegionByte.Byte (get_or (bytes 4 word) k 0)
+abbrev pub byte_of : Option ℕ → ℕ → Option ℕ
+byte_of w k = option_map (λ word. get_or (bytes 4 word) k 0) w
 
 region-byte : (m : Machine) (id offset : ℕ) → byte_of (region_word id (offset / 4) m) (offset % 4) ≡ region_byte id offset m
 unfolding region_word region_byte
@@ -114,16 +111,16 @@ region-byte m id offset =
     by-test (sees_region id m) (ltb (offset / 4) 5) (ltb offset 20) (same_end offset) (λ e. byte_at _ _ _ offset (ltb-true offset 20 e))
   where
     by-test : (s w t : Bool) → w ≡ t → (t ≡ true → get_or (bytes 4 (u32 (4 * (offset / 4)) (shown_in id m))) (offset % 4) 0 ≡ get_or (shown_in id m) offset 0)
-        → byte_of (elim (s && w) as (λ x. RegionWord) [ true ↦ RegionWord.Word (u32 (4 * (offset / 4)) (shown_in id m)) | false ↦ RegionWord.NoWord ]) (offset % 4)
-        ≡ elim (s && t) as (λ x. RegionByte) [ true ↦ RegionByte.Byte (get_or (shown_in id m) offset 0) | false ↦ RegionByte.NoByte ]
+        → byte_of (elim (s && w) as (λ x. Option ℕ) [ true ↦ Some (u32 (4 * (offset / 4)) (shown_in id m)) | false ↦ None ]) (offset % 4)
+        ≡ elim (s && t) as (λ x. Option ℕ) [ true ↦ Some (get_or (shown_in id m) offset 0) | false ↦ None ]
     by-test false w t p e = refl
     by-test true false false p e = refl
-    by-test true true true p e = ap RegionByte.Byte (e refl)
+    by-test true true true p e = ap Some (e refl)
     by-test true true false p e = cc
     by-test true false true p e = cc
 
-pub byte-of-word : (m : Machine) (id offset : ℕ) (w : RegionWord) → w ≡ region_word id (offset / 4) m → byte_of w (offset % 4) ≡ region_byte id offset m
-byte-of-word m id offset w e = ap (λ (v : RegionWord). byte_of v (offset % 4)) e ∙ region-byte m id offset
+pub byte-of-word : (m : Machine) (id offset : ℕ) (w : Option ℕ) → w ≡ region_word id (offset / 4) m → byte_of w (offset % 4) ≡ region_byte id offset m
+byte-of-word m id offset w e = ap (λ (v : Option ℕ). byte_of v (offset % 4)) e ∙ region-byte m id offset
 
 -- no cell has an ID from 16 up
 pub not_seen : (m : Machine) (id : ℕ) → 16 ≤ id → sees_region id m ≡ false
@@ -136,11 +133,11 @@ not_seen m id h = rw (le-ltb id 16 h, has_id) (by-test (not (eqb id 0)))
 
 -- a word, by the test that the code makes
 module _ (m : Machine) (id word : ℕ) (seen : Bool) (known : seen ≡ sees_region id m) where
-  pub no_word : (seen && ltb word 5) ≡ false → RegionWord.NoWord ≡ region_word id word m
+  pub no_word : (seen && ltb word 5) ≡ false → None ≡ region_word id word m
   unfolding region_word
   no_word e = rw (← known, e, region_word)
 
-  pub a_word : (seen && ltb word 5) ≡ true → RegionWord.Word (u32 (4 * word) (shown_in id m)) ≡ region_word id word m
+  pub a_word : (seen && ltb word 5) ≡ true → Some (u32 (4 * word) (shown_in id m)) ≡ region_word id word m
   unfolding region_word
   a_word e = rw (← known, e, region_word)
 

@@ -1,5 +1,5 @@
 -- A CPU that is marked failed in the table: its own mark is true, the others' are as they were. Assumes nothing.
-use Rattle.std.proofs.Common.{◌≡◌, ℕ, ◌<◌, ◌≤◌, Bool, ◌||◌, eqb, List, length, set, sym, ap, subst, get_or-set_other, get_or-set_same, le-ltb, lt-ltb, eq-eqb, ne_eqb}
+use Rattle.std.proofs.Common.{◌≡◌, ℕ, ◌<◌, Bool, ◌||◌, eqb, List, length, set, sym, ap, subst, get_or-set_other, get_or-set_same, lt-ltb, eq-eqb, ne_eqb}
 use native.Mathlib.Decide.{ℕ_discrete}
 use Rattle.machine_state.specs.declared.Cpu.{Cpu}
 use Rattle.machine_state.specs.Machine.{cpu_in, past_cpu, max_cpus}
@@ -22,7 +22,3 @@ failed-at cpus also i h = go (ℕ_discrete i also)
 pub cpu-inside : (cpu : ℕ) → cpu < max_cpus → cpu_index cpu ≡ cpu
 unfolding cpu_index
 cpu-inside cpu h = rw (lt-ltb cpu max_cpus h, cpu_index)
-
-pub cpu-outside : (cpu : ℕ) → max_cpus ≤ cpu → cpu_index cpu ≡ 0
-unfolding cpu_index
-cpu-outside cpu h = rw (le-ltb cpu max_cpus h, cpu_index)

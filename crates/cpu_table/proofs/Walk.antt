@@ -11,11 +11,11 @@ use Rattle.machine_state.specs.Machine.{cpu_in, past_cpu, max_cpus}
 use Rattle.rules.specs.Effects.{change_in, change_cpus}
 
 -- one CPU, by whether it is in the set
-in-set : (cpus : ℕ) (f : Cpu → Cpu) (k : ℕ) (p : Cpu) → member k cpus ≡ true → change_in cpus f k p ≡ f p
+pub in-set : (cpus : ℕ) (f : Cpu → Cpu) (k : ℕ) (p : Cpu) → member k cpus ≡ true → change_in cpus f k p ≡ f p
 unfolding change_in
 in-set cpus f k p e = rw (e, change_in)
 
-outside : (cpus : ℕ) (f : Cpu → Cpu) (k : ℕ) (p : Cpu) → member k cpus ≡ false → change_in cpus f k p ≡ p
+pub outside : (cpus : ℕ) (f : Cpu → Cpu) (k : ℕ) (p : Cpu) → member k cpus ≡ false → change_in cpus f k p ≡ p
 unfolding change_in
 outside cpus f k p e = rw (e, change_in)
 

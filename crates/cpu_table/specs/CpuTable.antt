@@ -1,5 +1,5 @@
 -- What is done to a CPU, as a value that one function hands to another; each case is a rule's.
-use Rattle.std.specs.Prelude.{◌≡◌, ℕ, ◌<◌, true, false, ◌≢◌, nat_lt}
+use Rattle.std.specs.Prelude.{◌≡◌, ℕ, ◌<◌, true, false, nat_lt, Option, Some, None}
 use Rattle.cpu_set.specs.CpuSet.{member}
 use Rattle.machine_state.specs.declared.Cpu.{Cpu}
 use Rattle.machine_state.specs.declared.Machine.{Machine}
@@ -25,7 +25,7 @@ touched cpu how m = with_cpu cpu (change_of how (cpu_at m cpu)) m
 unfoldable pub cpu_index : ℕ → ℕ
 cpu_index cpu = elim (nat_lt cpu max_cpus) [ true ↦ cpu | false ↦ 0 ]
 
--- a place of the table, and of a set that is not empty a member
-pub record FirstCpu (cpus r : ℕ) : Type 0 where
-  pub inside : r < max_cpus
-  pub is : (cpus ≢ 0) → member r cpus ≡ true
+-- a member of the set, which has a place in the table; none of a set that is empty
+pub record FirstCpu (cpus : ℕ) (r : Option ℕ) : Type 0 where
+  pub found : (k : ℕ) → r ≡ Some k → (k < max_cpus) × (member k cpus ≡ true)
+  pub none : r ≡ None → cpus ≡ 0

@@ -3,14 +3,14 @@
 
 ghost use Rattle.std.specs.Prelude.{◌≡◌, set as set_at};
 ghost use Rattle.machine_state.specs.Machine.{cpu_in};
-ghost use Rattle.rules.specs.Effects.{bump as bump_of, count_exit, fail_cpu, start_cpu, stop_cpu, all_failed, change_in, change_cpus};
+ghost use Rattle.rules.specs.Effects.{bump as bump_of, count_exit, fail_cpu, start_cpu, stop_cpu, all_failed, change_cpus};
 ghost use Rattle.comms.specs.Comms.{Index};
 ghost use Rattle.cpu_table.specs.CpuTable.{change_of, cpu_index, FirstCpu};
 
 use machine_state::{Cpu, MAX_CPUS};
 
 // What is done to a CPU: nothing, an exit counted with its own counter, marked failed, started,
-// stopped, or given to a cell, fresh, stopped or running.
+// stopped, or given to a cell, fresh, stopped or running. Data, and no closure: a decision carries it.
 #[derive(Clone, Copy)]
 pub enum CpuChange {
     Keep,
@@ -24,7 +24,9 @@ pub enum CpuChange {
 // The counter of calls; 0 is the total, and exits of kinds 0 to 3 have 1 to 4.
 pub const CALL_COUNTER: usize = 5;
 
-// The place of CPU `cpu` in the table; 0 where it has none there.
+// The place of CPU `cpu` in the table; 0 where it has none there. An index, and no option: a
+// caller promises something of a CPU with a place alone, and a CPU has no default.
+#[tactic(auto, unfolding(crate::specs::CpuTable::cpu_index))]
 pub fn cpu_index(cpu: u64) -> usize
     ensures { Index (cpu_index cpu) 64 result }
 {
@@ -35,60 +37,70 @@ pub fn cpu_index(cpu: u64) -> usize
     }
 }
 
+// The cell of CPU `cpu`; root where the table has no such CPU.
+pub fn owner(cpus: &[Cpu; MAX_CPUS], cpu: u64) -> usize
+    ensures { result ≡ (cpu_in cpus.now cpu).cell }
+{
+    match cpus.get(cpu as usize) {
+        Some(p) => p.cell,
+        None => 0,
+    }
+}
+
 // The counters with one added to the one at `i`, modulo 2^32.
+#[tactic(auto, unfolding(rules::specs::Effects::bump))]
 fn bump(counters: [u32; 6], i: usize) -> [u32; 6]
     ensures { result ≡ bump_of i counters }
 {
+    // An array has no struct update.
     let mut next = counters;
     if i < 6 {
-        next[i] = std::num::wrapping_add_u32(counters[i], 1);
+        next[i] = counters[i].wrapping_add(1);
     }
     next
 }
 
 // The CPU with one more exit: the total, and the counter at `own`.
+#[tactic(auto, unfolding(rules::specs::Effects::count_exit))]
 fn count_exit(p: Cpu, own: usize) -> Cpu
     ensures { result ≡ count_exit own p }
 {
-    let before = p.counters;
-    let counters = bump(bump(before, 0), own);
     Cpu {
-        cell: p.cell,
-        stopped: p.stopped,
-        failed: p.failed,
-        counters,
+        counters: bump(bump(p.counters, 0), own),
+        ..p
     }
 }
 
 // The CPU, failed.
+#[tactic(auto, unfolding(rules::specs::Effects::fail_cpu))]
 fn fail_cpu(p: Cpu) -> Cpu
     ensures { result ≡ fail_cpu p }
 {
-    let mut next = p;
-    next.failed = true;
-    next
+    Cpu { failed: true, ..p }
 }
 
 // The CPU, running and unfailed.
+#[tactic(auto, unfolding(rules::specs::Effects::start_cpu))]
 fn start_cpu(p: Cpu) -> Cpu
     ensures { result ≡ start_cpu p }
 {
-    let mut next = p;
-    next.stopped = false;
-    next.failed = false;
-    next
+    Cpu {
+        stopped: false,
+        failed: false,
+        ..p
+    }
 }
 
 // The CPU, stopped; its failed mark stays.
+#[tactic(auto, unfolding(rules::specs::Effects::stop_cpu))]
 fn stop_cpu(p: Cpu) -> Cpu
     ensures { result ≡ stop_cpu p }
 {
-    let mut next = p;
-    next.stopped = true;
-    next
+    Cpu { stopped: true, ..p }
 }
 
 // The CPU after a change.
+#[tactic(auto, unfolding(crate::specs::CpuTable::change_of))]
 pub fn change_cpu(p: Cpu, how: CpuChange) -> Cpu
     ensures { result ≡ change_of how p }
 {
@@ -102,46 +114,32 @@ pub fn change_cpu(p: Cpu, how: CpuChange) -> Cpu
     }
 }
 
-// CPU `k` after a change of the CPUs in `set`.
-fn change_in(set: u64, how: CpuChange, k: u64, p: Cpu) -> Cpu
-    ensures { result ≡ change_in «set» (change_of how) k p }
+// Changes the CPUs of a table that are in `set`.
+pub fn change_cpus(set: u64, how: CpuChange, cpus: &mut [Cpu; MAX_CPUS])
+    ensures { cpus.new ≡ change_cpus «set» (change_of how) cpus.old }
 {
-    if cpu_set::contains(set, k) {
-        change_cpu(p, how)
-    } else {
-        p
+    for (k, p) in cpus.iter_mut().enumerate() {
+        if cpu_set::contains(set, k as u64) {
+            *p = change_cpu(*p, how);
+        }
     }
 }
 
-// The table after a change of the CPUs in `set`.
-pub fn change_cpus(set: u64, how: CpuChange, cpus: [Cpu; MAX_CPUS]) -> [Cpu; MAX_CPUS]
-    ensures { result ≡ change_cpus «set» (change_of how) cpus }
-{
-    let mut next = cpus;
-    let mut i = 0;
-    while i < MAX_CPUS {
-        next[i] = change_in(set, how, i as u64, next[i]);
-        i += 1;
-    }
-    next
-}
-
-// A CPU of a set, its lowest; some place of the table where the set is empty.
-pub fn first_cpu(set: u64) -> usize
+// A CPU of a set: its lowest. Of 64 bits, as `id_set::lowest` is of 16, and under a contract of its own.
+pub fn first_cpu(set: u64) -> Option<usize>
     ensures { FirstCpu «set» result }
 {
-    (u64::trailing_zeros(set) % 64) as usize
+    if set == 0 {
+        None
+    } else {
+        Some(set.trailing_zeros() as usize)
+    }
 }
 
 // Whether every CPU in `set` is failed once CPU `also` is.
-pub fn all_failed(set: u64, also: usize, cpus: [Cpu; MAX_CPUS]) -> bool
-    ensures { result ≡ all_failed «set» (set_at cpus also (fail_cpu (cpu_in cpus also))) }
+pub fn all_failed(set: u64, also: usize, cpus: &[Cpu; MAX_CPUS]) -> bool
+    ensures { result ≡ all_failed «set» (set_at cpus.now also (fail_cpu (cpu_in cpus.now also))) }
 {
-    let mut ok = true;
-    let mut i = 0;
-    while i < MAX_CPUS {
-        ok = ok & (!cpu_set::contains(set, i as u64) | ((i == also) | cpus[i].failed));
-        i += 1;
-    }
-    ok
+    cpus.iter().enumerate().all(|(k, p)| !cpu_set::contains(set, k as u64)
+        | ((k == also) | p.failed))
 }

@@ -64,6 +64,10 @@ none (suc n) = none n
 pub zero-member : (k : ℕ) → k < 64 → member k 0 ≡ false
 zero-member k l = ap (member k) (sym (none 64)) ∙ member-set_of (λ i. false) k l
 
+-- an empty set has no ID
+pub none-of : (ids k : ℕ) → k < 16 → ids ≡ 0 → has_id ids k ≡ false
+none-of ids k h e = sym (member-low ids k h) ∙ ap (member k) e ∙ zero-member k (omega arith)
+
 -- the IDs that are free, root's aside: the bits of the complement
 pub free-bit : (ids k : ℕ) → ids < 2 ^ 16 → k < 16 → bit k ((2 ^ 16 - 1) - bit_or ids 1) ≡ not (eqb k 0 || has_id ids k)
 free-bit ids k fits h =

@@ -1,16 +1,17 @@
-// Sets of cell IDs: u16s whose bit `i` says whether ID `i` is in the set.
+// Sets of cell IDs: u16s whose bit `i` says whether ID `i` is in the set. Bare numbers, as the CPU sets
+// are, which document 01 has as u64 masks.
 #![tactic(auto)]
 
 ghost use Rattle.std.specs.Prelude.{◌≡◌, ℕ, ◌<◌, eqb};
 ghost use Rattle.cpu_set.specs.CpuSet.{member};
 ghost use Rattle.machine_state.specs.declared.Machine.{Machine};
-ghost use Rattle.rules.specs.State.{has_id};
+ghost use Rattle.rules.specs.State.{has_id, some_id};
 ghost use Rattle.rules.specs.Create.{free_id};
 ghost use Rattle.rules.specs.Effects.{add_id, drop_id};
 ghost use Rattle.id_set.specs.Ids.{Lowest};
-ghost use Rattle.id_set.specs.Choice.{choice};
 
 // Whether cell `id` is live.
+#[tactic(auto, unfolding(rules::specs::State::has_id))]
 pub fn is_live(live_ids: u16, id: u64) -> bool
     ensures { result ≡ has_id live_ids id }
 {
@@ -20,18 +21,11 @@ pub fn is_live(live_ids: u16, id: u64) -> bool
     (live_ids >> (id as u16)) % 2 == 1
 }
 
-// The first number where `b` is true, else the second.
-pub fn choose(b: bool, x: usize, y: usize) -> usize
-    ensures { result ≡ choice b x y }
+// The smallest free ID from 1: the lowest ID that is not in the set, root's counted as in it.
+pub fn free_id(live_ids: u16) -> Option<usize>
+    ensures { (m : Machine) → m.live_ids ≡ live_ids → result ≡ some_id (free_id m) }
 {
-    if b { x } else { y }
-}
-
-// The smallest free ID from 1, or 16: the lowest bit that is clear, with root's counted as set.
-pub fn free_id(live_ids: u16) -> usize
-    ensures { (m : Machine) → m.live_ids ≡ live_ids → result ≡ free_id m }
-{
-    u16::trailing_zeros(!(live_ids | 1)) as usize
+    lowest(!(live_ids | 1))
 }
 
 // The set of one number below 64; of none for a number from 64 up.
@@ -55,9 +49,9 @@ pub fn drop_id(live_ids: u16, id: usize) -> u16
     (cpu_set::without(live_ids as u64, single(id)) % 0x1_0000) as u16
 }
 
-// The lowest ID of a set, or 16 where the set is empty.
-pub fn lowest(ids: u16) -> usize
+// The lowest ID of a set.
+pub fn lowest(ids: u16) -> Option<usize>
     ensures { Lowest ids result }
 {
-    u16::trailing_zeros(ids) as usize
+    (ids != 0).then_some(ids.trailing_zeros() as usize)
 }

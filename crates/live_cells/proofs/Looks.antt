@@ -17,21 +17,16 @@ use Rattle.machine_state.specs.Machine.{max_cells}
 use Rattle.rules.specs.State.{root_id, cell_at, cell_ids, has_id}
 use Rattle.rules.specs.Create.{region_in_use}
 use Rattle.rules.specs.Effects.{drop_id}
-use Rattle.id_set.specs.Ids.{Lowest, id_count}
+use Rattle.id_set.specs.Ids.{id_count}
+use Rattle.id_set.proofs.Laws.{any-alike}
 use Rattle.id_set.proofs.Ids.{has-bit, has-dropped, drop-less}
 use Rattle.live_cells.specs.declared.Found.{Found}
 use Rattle.live_cells.specs.Looks.{has_name, meets_record, nothing_found, together, looked_at, some_of, found_in, found_live, asks_create, to_look_at, Looking}
 
 -- ---- some number of a row passes a test
 
-any-alike : (p q : ℕ → Bool) (k n : ℕ) → ((i : ℕ) → k ≤ i → i < k + n → p i ≡ q i) → any p (from k n) ≡ any q (from k n)
-unfolding any from
-any-alike p q k zero e = refl
-any-alike p q k (suc n) e =
-    ap₂ (λ (a b : Bool). a || b) (e k (omega arith) (omega arith)) (any-alike p q (suc k) n (λ i l h. e i (omega arith) (omega arith)))
-
 any_at : (p : ℕ → Bool) (k n i : ℕ) → k ≤ i → i < k + n → p i ≡ true → any p (from k n) ≡ true
-unfolding any from
+unfolding from
 any_at p k zero i l h t = absurd (omega arith)
 any_at p k (suc n) i l h t = go (ℕ_discrete k i) (λ m. any_at p (suc k) n i m (omega arith) t)
   where
@@ -46,7 +41,7 @@ module _ (p : ℕ → Bool) where
   some ids = any (λ id. has_id ids id && p id) (up_to max_cells)
 
   some-none : some 0 ≡ false
-  unfolding any from
+  unfolding from
   some-none =
       any-alike (λ id. has_id 0 id && p id) (λ id. false) 0 16
       (λ i l h. ap (λ (b : Bool). b && p i) (has-bit 0 i h ∙ ap (λ (n : ℕ). eqb (n % 2) 1) (zero-div (2 ^ i))))
@@ -63,7 +58,7 @@ module _ (p : ℕ → Bool) where
       go false e = any-alike (λ id. has_id ids id && p id) (λ id. has_id (drop_id i ids) id && p id) 0 16 (λ k l m. other e k m (ℕ_discrete k i))
 
   some-but-root : (ids : ℕ) → some (drop_id 0 ids) ≡ any (λ id. has_id ids id && p id) cell_ids
-  unfolding any from
+  unfolding from
   some-but-root ids =
       ap (λ (b : Bool). b && p 0 || any (λ id. has_id (drop_id 0 ids) id && p id) (from 1 15)) (has-dropped 0 ids 0 (omega arith))
       ∙ any-alike (λ id. has_id (drop_id 0 ids) id && p id) (λ id. has_id ids id && p id) 1 15
@@ -108,12 +103,12 @@ module _ {bytes : List ℕ} {m : Machine} {all left : ℕ} {found : Found} (look
     held = with-one (meets_record bytes) m found.held left i h t k;
   }
 
-  pub look-turn : {i rest : ℕ} {next : Found} {c : Cell} → (left ≡ 0 → ⊥) → Lowest left i → cell_at m i ≡ c → next ≡ looked_at found c bytes
+  pub look-turn : (i rest : ℕ) {next : Found} {c : Cell} → (i < max_cells) × (has_id left i ≡ true) → cell_at m i ≡ c → next ≡ looked_at found c bytes
       → rest ≡ drop_id i left → Looking bytes m all next rest
-  look-turn {i} more low is n r = record {
+  look-turn i rest low is n r = record {
     looks =
         ap₂ (λ (f : Found) (ids : ℕ). together f (found_in ids bytes m)) (n ∙ ap (λ (x : Cell). looked_at found x bytes) (sym is)) r
-        ∙ at_one i (low.inside more) (low.here more)
+        ∙ at_one i low.0 low.1
         ∙ looking.looks;
   }
 
@@ -129,5 +124,5 @@ module _ {bytes : List ℕ} {m : Machine} {all left : ℕ} {found : Found} (look
       ∙ ap (λ (ids : ℕ). found_in ids bytes m) (a ∙ for-create m.live_ids e t)
       ∙ found-live bytes m
 
-pub look-less : {left i rest : ℕ} → (left ≡ 0 → ⊥) → Lowest left i → rest ≡ drop_id i left → id_count rest < id_count left
-look-less {left} {i} more low r = subst (λ (n : ℕ). id_count n < id_count left) (sym r) (drop-less i left (low.inside more) (low.here more))
+pub look-less : (left i rest : ℕ) → (i < max_cells) × (has_id left i ≡ true) → rest ≡ drop_id i left → id_count rest < id_count left
+look-less left i rest low r = subst (λ (n : ℕ). id_count n < id_count left) (sym r) (drop-less i left low.0 low.1)

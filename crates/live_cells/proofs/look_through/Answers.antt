@@ -1,30 +1,31 @@
 -- `live_cells::look_through` meets its contract: a look adds what it finds of one cell. Assumes nothing.
-use mathlib.Core.Path.{sym, ap, ◌∙◌}
-use mathlib.Core.List.{List}
-use native.Mathlib.Omega.{arith}
+use Rattle.std.proofs.Common.{List, sym, ap, ◌∙◌, arith}
 use Rattle.machine_state.specs.declared.Cell.{Cell}
 use Rattle.machine_state.specs.Machine.{cell_in}
 use Rattle.live_cells.specs.Looks.{to_look_at}
 use Rattle.live_cells.proofs.Looks.{look-start, look-turn, look-less, look-end}
 use Rattle.live_cells.proofs.look_through.Goals as goal
 
-pub loop-left-init : goal.loop-left-init
-loop-left-init c m t = look-start _ m _ c.nothing_found-found.ensures
+pub loop-id-init : goal.loop-id-init
+loop-id-init c m t = look-start _ m _ c.nothing_found-found.ensures
 
-pub offset_bounds-cells-i : goal.offset_bounds-cells-i
-offset_bounds-cells-i c =
-    let h = c.lowest-i.ensures.inside c.loop-left-test.true in record { fits = omega arith }
+pub offset_bounds-cells-id : goal.offset_bounds-cells-id
+offset_bounds-cells-id c =
+    let inside = (c.lowest.ensures.found c.in-Some.id c.in-Some.is).0 in record { fits = omega (arith, inside) }
 
-pub bounds-cells-i : goal.bounds-cells-i
-bounds-cells-i c = c.lowest-i.ensures.inside c.loop-left-test.true
+pub bounds-cells-id : goal.bounds-cells-id
+bounds-cells-id c = (c.lowest.ensures.found c.in-Some.id c.in-Some.is).0
 
-pub loop-left-smaller : goal.loop-left-smaller
-loop-left-smaller c = look-less c.loop-left-test.true c.lowest-i.ensures c.drop_id-left.ensures
+pub loop-id-smaller : goal.loop-id-smaller
+loop-id-smaller c = look-less c.loop-id.left c.in-Some.id c.drop_id-left.result (c.lowest.ensures.found c.in-Some.id c.in-Some.is) c.drop_id-left.ensures
 
-pub loop-left-preserved : goal.loop-left-preserved
-loop-left-preserved c m t =
-    look-turn (c.loop-left.invariant m t) c.loop-left-test.true c.lowest-i.ensures (ap (λ (cells : List Cell). cell_in cells c.lowest-i.result) t) c.look-found.ensures
-    c.drop_id-left.ensures
+pub loop-id-preserved : goal.loop-id-preserved
+loop-id-preserved c m t =
+    let id = c.in-Some.id in
+    look-turn (c.loop-id.invariant m t) id c.drop_id-left.result (c.lowest.ensures.found id c.in-Some.is)
+    (ap (λ (cells : List Cell). cell_in cells id) t) c.look-found.ensures c.drop_id-left.ensures
 
 pub returns : goal.returns
-returns c m u t q = look-end (c.loop-left.invariant m t) _ c.loop-left-test.false (c.to_look_at-left.ensures ∙ ap (to_look_at _) (sym u)) q
+returns c m u t q =
+    look-end (c.loop-id.invariant m t) _ (c.lowest.ensures.none c.in_default.is)
+    (c.to_look_at-left.ensures ∙ ap (to_look_at c.args.e) (sym u)) q

@@ -5,7 +5,9 @@ use mathlib.Core.Bool.{not}
 use lib.Dec.{lit<}
 use borrow.Author.Tests.{eq-eqb, ne_eqb, not-true, not-false}
 use Rattle.base.proofs.Rules.{rule-holds, rule-passed, no-rule}
-use Rattle.rules.specs.Pages.{mapping_of}
+use mathlib.Core.List.{List}
+use Rattle.regions.specs.declared.MemRegion.{MemRegion}
+use Rattle.rules.specs.Pages.{mapping_of, cell_mapping}
 use Rattle.pages.proofs.Laws.{live-place, place-fits}
 use Rattle.mapping.proofs.mapping_of.Goals as goal
 
@@ -28,16 +30,17 @@ returns-then-not-is_live c =
     ∙ rule-passed _ _ _ (ne_eqb _ _ c.if-id-eq0.false)
     ∙ rule-passed _ _ _ (ap not (sym c.has_booted.ensures) ∙ (ap not c.if-not-has_booted.false))
 
-pub offset_bounds-m-i : goal.offset_bounds-m-i
-offset_bounds-m-i c = record { fits = place-fits _ _ (live-place _ _ _ c.is_live.ensures (ap not c.if-not-is_live.false)) (lit< tt) }
+pub offset_bounds-m-id : goal.offset_bounds-m-id
+offset_bounds-m-id c = record { fits = place-fits _ _ (live-place _ _ _ c.is_live.ensures (ap not c.if-not-is_live.false)) (lit< tt) }
 
-pub bounds-m-i : goal.bounds-m-i
-bounds-m-i c = live-place _ _ _ c.is_live.ensures (ap not c.if-not-is_live.false)
+pub bounds-m-id : goal.bounds-m-id
+bounds-m-id c = live-place _ _ _ c.is_live.ensures (ap not c.if-not-is_live.false)
 
 pub returns : goal.returns
 unfolding mapping_of
 returns c =
     c.table_mapping.ensures
+    ∙ ap (λ (rs : List MemRegion). cell_mapping rs c.args.page) c.regions.ensures
     ∙ rule-holds _ _ _ (sym c.is_live.ensures ∙ not-false _ (ap not c.if-not-is_live.false))
     ∙ rule-passed _ _ _ (ne_eqb _ _ c.if-id-eq0.false)
     ∙ rule-passed _ _ _ (ap not (sym c.has_booted.ensures) ∙ (ap not c.if-not-has_booted.false))

@@ -1,29 +1,25 @@
--- `mapping::region_for` meets its contract, by the loop's invariant. Assumes nothing.
-use mathlib.Core.Path.{refl, sym, ◌∙◌}
-use Prim.Native.Nat.{◌-◌}
-use Rattle.mapping.proofs.Laws.{region-here, region-next, region-none}
-use Rattle.std.proofs.Common.{rules}
+-- `mapping::region_for` meets its contract: the iterator's first is the definition's. Assumes nothing.
+use Rattle.std.proofs.Common.{Option, sym, ap, ◌∙◌, rules, tests}
+use Rattle.std.specs.Option.{unwrap_or, option_map}
+use Rattle.std.proofs.lemmas.Iterator.{YieldsList-from_slice}
+use Rattle.std.proofs.lemmas.Iterator.Search.{find_from_yields_List}
+use Rattle.regions.specs.declared.MemRegion.{MemRegion}
+use Rattle.regions.specs.Regions.{no_region}
+use Rattle.rules.specs.Pages.{has_virt}
+use Rattle.mapping.proofs.Laws.{first-region}
 use Rattle.mapping.proofs.region_for.Goals as goal
 
-pub loop-i-init : goal.loop-i-init
-loop-i-init c = (search rules, refl)
+pub returns-in-Some : goal.returns-in-Some
+returns-in-Some c =
+    let found = find_from_yields_List (has_virt c.args.page) _ _ c.find.result c.find.ensures.ran (YieldsList-from_slice c.args.regions.now cc) (λ x b q k. search (rules, tests)) in
+    ap (λ o. unwrap_or (option_map (λ r. r.now) o) no_region) (sym c.in-Some.is)
+    ∙ ap (λ (o : Option MemRegion). unwrap_or o no_region) found
+    ∙ first-region c.args.page c.args.regions.now
 
-pub returns-then-has_virt : goal.returns-then-has_virt
-returns-then-has_virt c =
-    region-here c.args.page c.args.table _ _ _ c.well_formed.0.1.0.1 c.used-n.ensures c.loop-i.i _ c.loop-i-test.true
-    (sym c.has_virt.ensures ∙ c.if-has_virt.true)
-    ∙ sym c.loop-i.invariant.1
-
-pub loop-i-preserved : goal.loop-i-preserved
-loop-i-preserved c = (
-  search rules,
-  c.loop-i.invariant.1
-      ∙ region-next c.args.page c.args.table _ _ _ c.well_formed.0.1.0.1 c.used-n.ensures c.loop-i.i _ c.loop-i-test.true
-      (sym c.has_virt.ensures ∙ c.if-has_virt.false),
-)
-
-pub returns : goal.returns
-returns c =
+pub returns-in-None : goal.returns-in-None
+returns-in-None c =
+    let found = find_from_yields_List (has_virt c.args.page) _ _ c.find.result c.find.ensures.ran (YieldsList-from_slice c.args.regions.now cc) (λ x b q k. search (rules, tests)) in
     c.no_region.ensures
-    ∙ region-none c.args.page c.args.table _ _ _ c.well_formed.0.1.0.1 c.used-n.ensures c.loop-i.i c.loop-i-test.false
-    ∙ sym c.loop-i.invariant.1
+    ∙ ap (λ o. unwrap_or (option_map (λ r. r.now) o) no_region) (sym c.in-None.is)
+    ∙ ap (λ (o : Option MemRegion). unwrap_or o no_region) found
+    ∙ first-region c.args.page c.args.regions.now

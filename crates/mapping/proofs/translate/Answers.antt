@@ -5,6 +5,8 @@ use borrow.Author.Tests.{not-true, not-false}
 use Rattle.machine_state.specs.declared.Mapping.TheVariants.{Page}
 use Rattle.rules.specs.Pages.{mapped_by, has_virt, phys_of}
 use Rattle.mapping.proofs.Laws.{page-small, page-starts, page-sum}
+use Prim.Native.Nat.{◌/◌}
+use Rattle.std.proofs.Common.{rules}
 use mathlib.Core.Path.{ap}
 use mathlib.Core.Bool.{not}
 use Rattle.mapping.proofs.translate.Goals as goal
@@ -24,10 +26,8 @@ overflow_sub-result c = page-starts _ _ _ (sym c.has_virt.ensures ∙ not-false 
 pub overflow_add-result : goal.overflow_add-result
 unfolding has_virt
 overflow_add-result c =
-    record {
-      fits = page-sum _ _ _ c.struct_known-1.given.0.fits
-          (page-small _ _ _ (sym c.has_virt.ensures ∙ not-false _ (ap not c.if-not-has_virt.false)));
-    }
+    let small = page-small _ _ _ (sym c.has_virt.ensures ∙ not-false _ (ap not c.if-not-has_virt.false)) in
+    record { fits = page-sum c.args.r.phys (c.args.r.virt / 4096) c.args.page.0 (search rules) small }
 
 pub returns : goal.returns
 unfolding mapped_by phys_of
