@@ -1,150 +1,90 @@
-// What is decided, applied to a machine that is one value: for the entry of one event. The parts are
-// those of `effects`, which the loop over a log stores in place, one by one.
+// What is decided, applied to a machine in place.
 #![tactic(auto)]
 
 ghost use Rattle.std.specs.Prelude.{◌≡◌, false, List, ◌∷◌, ℕ};
 ghost use Rattle.cell_record.specs.CellRecord.{cell_of};
-ghost use Rattle.rules.specs.State.{with_power, with_waiting};
 ghost use Rattle.rules.specs.Effects.{effect as call_effect, all_destroyed, disabled};
 ghost use Rattle.asking.specs.Moves.{effect_of, cut_off_at};
 ghost use Rattle.effects.specs.Parts.{is_disable, changed_cell};
 
 use asking::Effect;
+use comms::WordsChange;
 use cpu_table::CpuChange;
-use effects::CellChange;
-use machine_state::{CallKind, Cell, MAX_CELLS, Machine, Power, Waiting};
+use machine_state::{CallKind, Cell, FAILED, MAX_CELLS, Machine, Phase, Power, STATE_WORD};
 
-// The machine with a cell cut off by its reply limit; a number past the table names none.
-pub fn cut_off(mut m: Machine, cut: usize) -> Machine
-    ensures { result ≡ cut_off_at cut m }
+// Cuts a cell off by its reply limit, if there is one to cut off; a number past the table names none.
+#[tactic(auto, unfolding(asking::specs::Moves::cut_off_at, comms::specs::Comms::words_of, rules::specs::Effects::cell_cut_off, rules::specs::Effects::store_word, rules::specs::Effects::cpus_changed, rules::specs::State::with_cpus, rules::specs::State::with_comm, cpu_table::specs::CpuTable::change_of))]
+pub fn cut_off(m: &mut Machine, cut: Option<usize>)
+    ensures { m.new ≡ cut_off_at cut m.old }
 {
-    if cut < MAX_CELLS {
-        let cpus = m.cpus;
-        m.comms[cut] = effects::failed_words(m.comms[cut]);
-        m.cpus = cpu_table::change_cpus(m.cells[cut].cpus, CpuChange::Stop, cpus);
-        return m;
-    }
-    m
-}
-
-// What stands at a cell's place after a change, where `c` stood.
-fn cell_after(change: CellChange, record: &[u8], c: Cell) -> Cell
-    ensures { result ≡ changed_cell change (cell_of «record».now) c }
-{
-    match change {
-        CellChange::Keep => c,
-        CellChange::New => effects::new_cell(record),
-        CellChange::Phase(phase) => effects::with_phase(phase, c),
-        CellChange::Empty => machine_state::no_cell(),
-    }
-}
-
-// The machine after the effect of a call on one cell.
-fn on_cell(mut m: Machine, kind: CallKind, id: usize, record: &[u8]) -> Machine
-    ensures { is_disable kind ≡ false → result ≡ call_effect kind id (cell_of «record».now) m }
-{
-    let cpus = m.cpus;
-    let i = comms::cell_index(id);
-    let c = m.cells[i];
-    let w = m.comms[i];
-    let new = effects::figures_of(record);
-    let numbers = effects::numbers_after(
-        kind,
-        id,
-        c.cpus,
-        c.region_count,
-        new,
-        m.pool_used,
-        m.live_ids,
-        m.root_cpus,
-    );
-    let how = numbers.how;
-    m.pool_used = numbers.pool_used;
-    m.live_ids = numbers.live_ids;
-    m.root_cpus = numbers.root_cpus;
-    m.cells[i] = cell_after(effects::cell_change(kind, id), record, c);
-    m.comms[i] = effects::words_after(kind, id, new, w);
-    m.cpus = cpu_table::change_cpus(numbers.cpus, how, cpus);
-    m
-}
-
-// The machine after cell `id`, if it is live, was destroyed.
-fn destroy_live(m: Machine, id: usize) -> Machine
-    ensures { (ids : List ℕ) → all_destroyed (id ∷ ids) m ≡ all_destroyed ids result }
-{
-    if id_set::is_live(m.live_ids, id as u64) {
-        return on_cell(m, CallKind::Destroy, id, b"");
-    }
-    m
-}
-
-// The machine, off.
-fn switch_off(m: Machine) -> Machine
-    ensures { result ≡ with_power Power.Disabled m }
-{
-    let system = m.system;
-    let cells = m.cells;
-    let comms = m.comms;
-    let cpus = m.cpus;
-    let waiting = m.waiting;
-    Machine {
-        power: Power::Disabled,
-        system,
-        pool_used: m.pool_used,
-        live_ids: m.live_ids,
-        root_cpus: m.root_cpus,
-        cells,
-        comms,
-        cpus,
-        waiting,
-    }
-}
-
-// The machine after Disable: all cells destroyed, then off.
-pub fn disable(mut m: Machine) -> Machine
-    ensures { result ≡ disabled m }
-{
-    let mut i = 1;
-    while i < MAX_CELLS {
-        m = destroy_live(m, i);
-        i += 1;
-    }
-    switch_off(m)
-}
-
-// The machine after an effect. A call with code 1 comes with its record's bytes.
-pub fn carry_out(m: Machine, effect: Effect, record: &[u8]) -> Machine
-    ensures { result ≡ effect_of effect (cell_of «record».now) m }
-{
-    match effect {
-        Effect::NoEffect => m,
-        Effect::Comes(kind, id) => {
-            if effects::is_disable(kind) {
-                return disable(m);
-            }
-            on_cell(m, kind, id, record)
+    if let Some(id) = cut {
+        if id < MAX_CELLS {
+            m.comms[id] = comms::change_words(m.comms[id], WordsChange::Store(STATE_WORD, FAILED));
+            cpu_table::change_cpus(m.cells[id].cpus, CpuChange::Stop, &mut m.cpus);
         }
     }
 }
 
-// The machine with another waiting call.
-pub fn with_waiting(m: Machine, waiting: Waiting) -> Machine
-    ensures { result ≡ with_waiting waiting m }
+// What the effect of a call on a cell does to the cell. Disable does nothing itself: it destroys each.
+#[tactic(auto, unfolding(rules::specs::Effects::with_phase))]
+fn change_cell(c: &mut Cell, kind: CallKind, record: &[u8])
+    ensures { c.new ≡ changed_cell kind (cell_of «record».now) c.old }
 {
-    let power = m.power;
-    let system = m.system;
-    let cells = m.cells;
-    let comms = m.comms;
-    let cpus = m.cpus;
-    Machine {
-        power,
-        system,
-        pool_used: m.pool_used,
-        live_ids: m.live_ids,
-        root_cpus: m.root_cpus,
-        cells,
-        comms,
-        cpus,
-        waiting,
+    match kind {
+        CallKind::Disable => {}
+        CallKind::Create => *c = effects::new_cell(record),
+        CallKind::Start => c.phase = Phase::Started,
+        CallKind::SetLoadable => c.phase = Phase::Loading,
+        CallKind::Destroy => *c = machine_state::no_cell(),
+    }
+}
+
+// The effect of a call on one cell.
+fn on_cell(m: &mut Machine, kind: CallKind, id: usize, record: &[u8])
+    ensures { is_disable kind ≡ false → m.new ≡ call_effect kind id (cell_of «record».now) m.old }
+{
+    let new = effects::figures_of(record);
+    let numbers = effects::numbers_after(kind, id, new, m);
+    m.pool_used = numbers.pool_used;
+    m.live_ids = numbers.live_ids;
+    m.root_cpus = numbers.root_cpus;
+    cpu_table::change_cpus(numbers.cpus, numbers.how, &mut m.cpus);
+    if id < MAX_CELLS {
+        change_cell(&mut m.cells[id], kind, record);
+        m.comms[id] = effects::words_after(kind, new, m.comms[id]);
+    }
+}
+
+// Destroys cell `id`, if it is live.
+#[tactic(auto, using(crate::proofs::Laws::live_destroyed, crate::proofs::Laws::absent_stays))]
+fn destroy_live(m: &mut Machine, id: usize)
+    ensures { (ids : List ℕ) → all_destroyed (id ∷ ids) m.old ≡ all_destroyed ids m.new }
+{
+    if id_set::is_live(m.live_ids, id as u64) {
+        on_cell(m, CallKind::Destroy, id, b"");
+    }
+}
+
+// Disable: all cells destroyed, then off.
+pub fn disable(m: &mut Machine)
+    ensures { m.new ≡ disabled m.old }
+{
+    for id in 1..MAX_CELLS {
+        destroy_live(m, id);
+    }
+    m.power = Power::Disabled;
+}
+
+// An effect comes, if there is one. A call with code 1 comes with its record's bytes.
+#[tactic(auto, unfolding(asking::specs::Moves::effect_of, rules::specs::Effects::effect))]
+pub fn carry_out(m: &mut Machine, effect: Effect, record: &[u8])
+    ensures { m.new ≡ effect_of effect (cell_of «record».now) m.old }
+{
+    if let Some((kind, id)) = effect {
+        if effects::is_disable(kind) {
+            disable(m);
+        } else {
+            on_cell(m, kind, id, record);
+        }
     }
 }

@@ -14,7 +14,6 @@ use Rattle.base.proofs.Tests.{holds}
 use Rattle.cell_record.specs.declared.CellConfig.{CellConfig}
 use Rattle.machine_state.specs.declared.CommRegion.{CommRegion}
 use Rattle.machine_state.specs.declared.CallKind.{CallKind}
-use Rattle.machine_state.specs.declared.CallKind.TheVariants as CallKind
 use Rattle.machine_state.specs.declared.Machine.{Machine}
 use Rattle.machine_state.specs.Machine.{past_comm, no_comm, max_cells}
 use Rattle.rules.specs.State.{first, live, comm_at, active, is_final, root_id, with_pool, with_ids, with_root_cpus, with_cell, with_comm, with_cpus}
@@ -114,7 +113,7 @@ module _ (target : ℕ) (m : Machine) where
 
 pub told-after : (kind : CallKind) (target : ℕ) (new : CellConfig) (m : Machine) → tells kind ≡ true → length m.comms ≡ max_cells
     → next_to_message every_cell 0 (effect kind target new m) ≡ next_to_message (λ id. not (eqb id target)) 0 m
-unfolding tells effect
+unfolding effect
 told-after CallKind.Disable target new m t size = absurd (holds {b = false} t)
 told-after CallKind.Create target new m t size = told-created target new m size
 told-after CallKind.Start target new m t size = absurd (holds {b = false} t)

@@ -1,6 +1,6 @@
 -- What a call or a poll does once its CPU is counted, as one small value: the answer, the effect that comes, what is done to the words of one
 -- cell, and the call that waits then.
-use Rattle.std.specs.Prelude.{true, false, ◌≡◌, ℕ, ◌<◌, ltb, length}
+use Rattle.std.specs.Prelude.{true, false, ◌≡◌, ℕ, ◌<◌, ltb, length, Option, None, Some}
 use Rattle.cell_record.specs.declared.CellConfig.{CellConfig}
 use Rattle.machine_state.specs.declared.CommRegion.{CommRegion}
 use Rattle.machine_state.specs.declared.CallKind.{CallKind}
@@ -8,19 +8,21 @@ use Rattle.machine_state.specs.declared.Stage.{Stage}
 use Rattle.machine_state.specs.declared.Machine.{Machine}
 use Rattle.machine_state.specs.declared.Stepped.{Stepped}
 use Rattle.machine_state.specs.Machine.{max_cells}
-use Rattle.rules.specs.State.{comm_at, no_id, with_waiting, answered}
+use Rattle.rules.specs.State.{comm_at, with_waiting, answered}
 use Rattle.rules.specs.Effects.{effect, cell_cut_off}
 use Rattle.rules.specs.Asking.{reconfig_completed, telling, wait_for, finished, end_code}
 use Rattle.comms.specs.declared.CellSets.{CellSets}
 use Rattle.comms.specs.Comms.{words_at}
 use Rattle.comms.specs.Sets.{Sets}
-use Rattle.asking.specs.declared.Effect.{Effect}
-use Rattle.asking.specs.declared.Effect.TheVariants.{NoEffect, Comes}
 use Rattle.asking.specs.declared.Move.{Move}
 
+-- the effect that comes: none, or that of a call on its target
+abbrev pub Effect : Type 0
+Effect = Option (CallKind × ℕ)
+
 unfoldable pub effect_of : Effect → CellConfig → Machine → Machine
-effect_of NoEffect new m = m
-effect_of (Comes kind target) new m = effect kind target new m
+effect_of None new m = m
+effect_of (Some (kind, target)) new m = effect kind target new m
 
 -- the effect first, then the words, then the call that waits
 unfoldable pub moved : Move → CellConfig → Machine → Stepped
@@ -45,13 +47,11 @@ pub record Hears (cells : CellSets) (w : CommRegion) (stage : Stage) (m : Machin
   pub words : comm_at m stage.cell ≡ w
 
 -- a poll cuts a cell off, or none: a number past the table names none
-unfoldable pub cut_off_at : ℕ → Machine → Machine
-cut_off_at cut m = elim (ltb cut max_cells) [ true ↦ cell_cut_off cut m | false ↦ m ]
+unfoldable pub cut_off_at : Option ℕ → Machine → Machine
+cut_off_at None m = m
+cut_off_at (Some cut) m = elim (ltb cut max_cells) [ true ↦ cell_cut_off cut m | false ↦ m ]
 
 -- telling the cell `next`, or with none left the call's end
-unfoldable pub tell_next : CallKind → ℕ → ℕ → Machine → Stepped
-tell_next kind target next m =
-    elim (ltb next no_id) [
-      | true ↦ wait_for kind (telling target next 0) reconfig_completed m
-      | false ↦ finished (end_code kind target) m
-    ]
+unfoldable pub tell_next : CallKind → ℕ → Option ℕ → Machine → Stepped
+tell_next kind target (Some next) m = wait_for kind (telling target next 0) reconfig_completed m
+tell_next kind target None m = finished (end_code kind target) m

@@ -2,24 +2,21 @@
 // decided from the sets of cells and the words of the cell heard alone.
 #![tactic(auto)]
 
-ghost use Rattle.std.specs.Prelude.{◌≡◌, false, ℕ, ◌<◌};
+ghost use Rattle.std.specs.Prelude.{◌≡◌, false, ℕ, ◌<◌, Some};
+ghost use Rattle.base.specs.Codes.{number_of};
 ghost use Rattle.rules.specs.State.{with_waiting, answered};
 ghost use Rattle.rules.specs.Asking.{asks, tells as tells_of, is_destroy, end_code, wait_for, finished, carry_out, none_to_ask, ask as ask_of, hear as hear_of};
 ghost use Rattle.comms.specs.Comms.{among};
 ghost use Rattle.asking.specs.Moves.{effect_of, AnyMachine, WithSets, Hears, tell_next, Moves};
 
-use base::EPERM;
+use base::Errno;
 use comms::{CellSets, Whom, WordsChange};
 use machine_state::{
-    Answer, CallKind, CommRegion, MAX_CELLS, RECONFIG_COMPLETED, SHUTDOWN_REQUEST, Stage, Waiting,
+    Answer, CallKind, CommRegion, RECONFIG_COMPLETED, SHUTDOWN_REQUEST, Stage, Waiting,
 };
 
 // The effect that comes: none, or that of a call on its target.
-#[derive(Clone, Copy)]
-pub enum Effect {
-    NoEffect,
-    Comes(CallKind, usize),
-}
+pub type Effect = Option<(CallKind, usize)>;
 
 // What a call or a poll does: its answer, the effect that comes, then what is done to the words of
 // one cell, and the call that waits then.
@@ -49,14 +46,21 @@ pub fn keep_words(answer: Answer, effect: Effect, waiting: Waiting) -> Move
 pub fn stay(answer: Answer, waiting: Waiting) -> Move
     ensures { Moves (λ m. m.waiting ≡ waiting) (λ new m. answered answer m) result }
 {
-    keep_words(answer, Effect::NoEffect, waiting)
+    keep_words(answer, None, waiting)
 }
 
-// The end of a call, with its code.
+// The end of a call that is refused: nothing changes, and no call waits then.
+fn refuse(why: Errno) -> Move
+    ensures { Moves AnyMachine (λ new m. finished (number_of why) m) result }
+{
+    keep_words(Answer::Code(i32::from(why)), None, None)
+}
+
+// The end of a call that comes to its effect, with 0 or the new ID.
 fn finish(code: i32, effect: Effect) -> Move
     ensures { Moves AnyMachine (λ new m. finished code (effect_of effect new m)) result }
 {
-    keep_words(Answer::Code(code), effect, Waiting::NoCall)
+    keep_words(Answer::Code(code), effect, None)
 }
 
 // A message to the stage's cell, for which the call then waits.
@@ -70,37 +74,38 @@ fn wait_for(kind: CallKind, stage: Stage, code: u32, effect: Effect) -> Move
         effect,
         cell,
         words: WordsChange::Message(code),
-        waiting: Waiting::Pending(kind, stage),
+        waiting: Some((kind, stage)),
     }
 }
 
-// The code with which a call ends that has told everyone.
+// The code with which a call ends that has told everyone: the new ID or 0, a number and no refusal.
+#[tactic(auto, unfolding(rules::specs::Asking::end_code))]
 fn end_code(kind: CallKind, target: usize) -> i32
     ensures { result ≡ end_code kind target }
 {
-    match kind {
-        CallKind::Create => (target % 0x8000_0000) as i32,
-        CallKind::Disable => 0,
-        CallKind::Start => 0,
-        CallKind::SetLoadable => 0,
-        CallKind::Destroy => 0,
+    if kind == CallKind::Create {
+        (target % 0x8000_0000) as i32
+    } else {
+        0
     }
 }
 
 // Telling the cell `next`, or with none left the call's end.
-fn tell_next(kind: CallKind, target: usize, next: usize, effect: Effect) -> Move
+fn tell_next(kind: CallKind, target: usize, next: Option<usize>, effect: Effect) -> Move
+    requires { (cell : ℕ) → next ≡ Some cell → cell < 16 }
     ensures { Moves AnyMachine (λ new m. tell_next kind target next (effect_of effect new m)) result }
 {
-    if next < MAX_CELLS {
-        let stage = Stage {
-            target,
-            cell: next,
-            telling: true,
-            polls: 0,
-        };
-        wait_for(kind, stage, RECONFIG_COMPLETED, effect)
-    } else {
-        finish(end_code(kind, target), effect)
+    match next {
+        Some(cell) => {
+            let stage = Stage {
+                target,
+                cell,
+                telling: true,
+                polls: 0,
+            };
+            wait_for(kind, stage, RECONFIG_COMPLETED, effect)
+        }
+        None => finish(end_code(kind, target), effect),
     }
 }
 
@@ -108,13 +113,7 @@ fn tell_next(kind: CallKind, target: usize, next: usize, effect: Effect) -> Move
 fn tells(kind: CallKind) -> bool
     ensures { result ≡ tells_of kind }
 {
-    match kind {
-        CallKind::Create => true,
-        CallKind::Destroy => true,
-        CallKind::Disable => false,
-        CallKind::Start => false,
-        CallKind::SetLoadable => false,
-    }
+    matches!(kind, CallKind::Create | CallKind::Destroy)
 }
 
 // The effect of a call that may go ahead, and what follows it. The cells that are told after it are
@@ -122,7 +121,7 @@ fn tells(kind: CallKind) -> bool
 fn carry_out(cells: CellSets, kind: CallKind, target: usize) -> Move
     ensures { Moves (WithSets cells) (carry_out kind target) result }
 {
-    let effect = Effect::Comes(kind, target);
+    let effect: Effect = Some((kind, target));
     if tells(kind) {
         let next = comms::next_cell(cells.messageable, Whom::EveryoneBut(target), 0);
         tell_next(kind, target, next, effect)
@@ -135,36 +134,29 @@ fn carry_out(cells: CellSets, kind: CallKind, target: usize) -> Move
 pub fn is_destroy(kind: CallKind) -> bool
     ensures { result ≡ is_destroy kind }
 {
-    match kind {
-        CallKind::Destroy => true,
-        CallKind::Disable => false,
-        CallKind::Create => false,
-        CallKind::Start => false,
-        CallKind::SetLoadable => false,
-    }
+    kind == CallKind::Destroy
 }
 
 // What follows when no cell is left to ask: Destroy looks at the locks once more.
 fn none_to_ask(cells: CellSets, kind: CallKind, target: usize) -> Move
     ensures { Moves (WithSets cells) (none_to_ask kind target) result }
 {
-    if is_destroy(kind) & comms::is_locked_but(cells.locked, target) {
-        finish(EPERM, Effect::NoEffect)
+    if is_destroy(kind) && comms::is_locked_but(cells.locked, target) {
+        refuse(Errno::NotPermitted)
     } else {
         carry_out(cells, kind, target)
     }
 }
 
 // The cells that a call asks.
+#[tactic(auto, unfolding(rules::specs::Asking::asks, comms::specs::Comms::among))]
 fn asked(kind: CallKind, target: usize) -> Whom
     ensures { (id : ℕ) → among result id ≡ asks kind target id }
 {
     match kind {
         CallKind::Disable => Whom::Everyone,
         CallKind::Create => Whom::Nobody,
-        CallKind::Start => Whom::Only(target),
-        CallKind::SetLoadable => Whom::Only(target),
-        CallKind::Destroy => Whom::Only(target),
+        CallKind::Start | CallKind::SetLoadable | CallKind::Destroy => Whom::Only(target),
     }
 }
 
@@ -172,17 +164,17 @@ fn asked(kind: CallKind, target: usize) -> Whom
 pub fn ask(cells: CellSets, kind: CallKind, target: usize, after: usize) -> Move
     ensures { Moves (WithSets cells) (ask_of kind target after) result }
 {
-    let next = comms::next_cell(cells.messageable, asked(kind, target), after);
-    if next < MAX_CELLS {
-        let stage = Stage {
-            target,
-            cell: next,
-            telling: false,
-            polls: 0,
-        };
-        wait_for(kind, stage, SHUTDOWN_REQUEST, Effect::NoEffect)
-    } else {
-        none_to_ask(cells, kind, target)
+    match comms::next_cell(cells.messageable, asked(kind, target), after) {
+        Some(cell) => {
+            let stage = Stage {
+                target,
+                cell,
+                telling: false,
+                polls: 0,
+            };
+            wait_for(kind, stage, SHUTDOWN_REQUEST, None)
+        }
+        None => none_to_ask(cells, kind, target),
     }
 }
 
@@ -194,11 +186,11 @@ pub fn hear(cells: CellSets, w: CommRegion, kind: CallKind, stage: Stage) -> Mov
     let target = stage.target;
     if stage.telling {
         let next = comms::next_cell(cells.messageable, Whom::Everyone, cell);
-        return tell_next(kind, target, next, Effect::NoEffect);
+        return tell_next(kind, target, next, None);
     }
     if comms::consents(w) {
         ask(cells, kind, target, cell)
     } else {
-        finish(EPERM, Effect::NoEffect)
+        refuse(Errno::NotPermitted)
     }
 }

@@ -2,46 +2,46 @@
 -- where a call is counted differs from the one before it in the caller's counters alone. Assumes nothing.
 use mathlib.Core.Bool.{Bool, true, false, not, ◌&&◌, ◌||◌}
 use mathlib.Core.List.{List}
-use mathlib.Core.Path.{◌≡◌, refl, sym, ap, ◌∙◌}
+use mathlib.Core.Path.{◌≡◌, refl, sym, ap, subst, ◌∙◌}
 use Prim.Native.Nat.{ℕ, ◌<◌, ◌≤◌}
-use mir.Syntax.{w32}
-use mir.Val.{of_z}
+use native.Mathlib.Omega.{arith}
 use borrow.Author.Tests.{eq-eqb, ne_eqb, lt-ltb, le-ltb}
 use lib.Dec.{leb, eqb}
-use lib.IntN.{ℤ}
+use lib.ListN.{length}
+use Rattle.std.specs.Prelude.{Result, Ok, Err}
+use Rattle.base.specs.declared.Errno.{Errno}
+use Rattle.base.specs.Codes.{number_of}
 use Rattle.base.specs.Rules.{first_rule, EPERM, ENOENT, EINVAL, ENOSYS}
 use Rattle.base.proofs.Rules.{rule-holds, rule-passed, no-rule}
 use Rattle.cell_record.specs.declared.CellConfig.{CellConfig}
 use Rattle.cell_record.specs.CellRecord.{cell_of}
-use Rattle.system_record.specs.declared.Pool.{Pool}
-use Rattle.machine_state.specs.declared.CommRegion.{CommRegion}
-use Rattle.machine_state.specs.declared.Waiting.{Waiting}
-use Rattle.machine_state.specs.declared.Cpu.{Cpu}
+use Rattle.machine_state.specs.declared.CallCode.{CallCode}
+use Rattle.machine_state.specs.declared.CallCode.TheVariants.{HypervisorDisable, CellCreate, CellStart, CellSetLoadable, CellDestroy, HypervisorGetInfo, CellGetState, CpuGetInfo}
+use Rattle.machine_state.specs.CallCodes.{call_number}
 use Rattle.machine_state.specs.declared.CallKind.{CallKind}
 use Rattle.machine_state.specs.declared.CallKind.TheVariants.{Disable, Create, Start, SetLoadable, Destroy}
 use Rattle.machine_state.specs.declared.Machine.{Machine}
 use Rattle.machine_state.specs.declared.Stepped.{Stepped}
-use Rattle.rules.specs.State.{root_id, cpu_at, live, with_cpus}
+use Rattle.machine_state.specs.Machine.{max_cells}
+use Rattle.rules.specs.State.{root_id, cpu_at, live, active, with_cpus}
 use Rattle.rules.specs.Queries.{get_info, get_state, cpu_get_info}
-use Rattle.rules.specs.Create.{other_cell_locked, free_id}
-use Rattle.rules.specs.Effects.{counted, count_exit, call_counter}
+use Rattle.rules.specs.Create.{other_cell_locked, invalid, name_in_use, busy, region_in_use, no_room, free_id}
+use Rattle.rules.specs.Effects.{counted, call_counter}
 use Rattle.rules.specs.Asking.{ask, is_destroy}
 use Rattle.rules.specs.Calls.{ends, cpu_get_info_code, cell_destroy, cell_get_state, disable_call, create_call, target_call, call_by_code, call}
-use Rattle.cpu_table.specs.CpuTable.{change_of}
 use Rattle.comms.specs.declared.CellSets.{CellSets}
+use Rattle.comms.specs.Sets.{Sets}
 use Rattle.comms.proofs.Sets.{same-sets}
 use Rattle.asking.specs.declared.Move.{Move}
 use Rattle.asking.specs.Moves.{Moves, WithSets}
-use Rattle.queries.proofs.Laws.{caller-counted}
-use Rattle.create_rules.specs.Rows.{create_code}
+use Rattle.create_rules.specs.Rows.{code_of_id, create_code}
 use Rattle.create_rules.proofs.Laws.{code-admits, code-refuses}
-use Rattle.calls.specs.Calls.{Calls, Parts, CallParts, Waits}
+use Rattle.calls.specs.Calls.{roots_alone, Calls}
 
 -- a move by a rule, as a call's
-pub calls_by : {has one : Machine → Type 0} {cpu : ℕ} {bytes : List ℕ} {rule : CellConfig → Machine → Stepped} {of : Machine → Stepped} {mv : Move}
-    → Moves one rule mv → ((m : Machine) → has m → one (counted call_counter cpu m))
-    → ((m : Machine) → has m → rule (cell_of bytes) (counted call_counter cpu m) ≡ of (counted call_counter cpu m)) → Calls has cpu bytes of mv
-calls_by {bytes = bytes} r f e = record { moves = λ m h. r.moves _ (cell_of bytes) (f m h) ∙ e m h; place = r.place }
+pub calls_by : {has : Machine → Type 0} {rule : CellConfig → Machine → Stepped} {of : Machine → Stepped} {mv : Move} (m : Machine) (cpu : ℕ) (new : CellConfig)
+    → Moves has rule mv → has (counted call_counter cpu m) → rule new (counted call_counter cpu m) ≡ of (counted call_counter cpu m) → Calls m cpu new of mv
+calls_by m cpu new r h e = record { moves = r.moves _ new h ∙ e; place = r.place }
 
 -- ---- Start, Set Loadable, Destroy
 
@@ -64,14 +64,27 @@ module _ (kind : CallKind) (id : ℕ) (new : CellConfig) (m : Machine) where
       unfolding target_call
       target-asks e = no-rule _ ∙ rule-passed _ _ _ e ∙ rule-passed _ _ _ there ∙ rule-passed _ _ _ (ne_eqb id root_id not_root)
 
--- ---- Create, by what the scan found
+-- ---- Create, by what its rows say
 
-module _ (caller : ℕ) (bytes : List ℕ) (m : Machine) (scan : ℤ) (e : scan ≡ create_code caller bytes m) where
-  pub create-refused : (of_z w32 scan ≡ 0 → ⊥) → ends scan m ≡ create_call caller bytes m
-  create-refused n = sym (code-refuses caller bytes m scan e n)
+module _ (caller : ℕ) (bytes : List ℕ) (m : Machine) where
+  -- nothing that Create's rows look at is changed where its call is counted
+  code-counted : create_code caller bytes m ≡ create_code caller bytes (counted call_counter caller m)
+  unfolding create_code invalid name_in_use busy region_in_use no_room free_id other_cell_locked active counted with_cpus
+  code-counted = refl
 
-  pub create-asks : (id : ℕ) → id ≡ free_id m → of_z w32 scan ≡ 0 → ask Create id 0 (cell_of bytes) m ≡ create_call caller bytes m
-  create-asks id f z = ap (λ (k : ℕ). ask Create k 0 (cell_of bytes) m) f ∙ sym (code-admits caller bytes m scan e z)
+  same-free : free_id m ≡ free_id (counted call_counter caller m)
+  unfolding free_id counted with_cpus
+  same-free = refl
+
+  module _ (r : Result ℕ Errno) (is : code_of_id r ≡ create_code caller bytes m) where
+    pub create-refused : (why : Errno) → r ≡ Err why → ends (number_of why) (counted call_counter caller m) ≡ create_call caller bytes (counted call_counter caller m)
+    create-refused why q = sym (code-refuses caller bytes _ r (is ∙ code-counted) why q)
+
+    pub create-asks : (id : ℕ) → id ≡ free_id m → r ≡ Ok id
+        → ask Create id 0 (cell_of bytes) (counted call_counter caller m) ≡ create_call caller bytes (counted call_counter caller m)
+    create-asks id f q =
+        ap (λ (k : ℕ). ask Create k 0 (cell_of bytes) (counted call_counter caller m)) (f ∙ same-free)
+        ∙ sym (code-admits caller bytes _ r (is ∙ code-counted) id q)
 
 -- ---- a call by its code
 
@@ -108,34 +121,44 @@ module _ (cpu a1 a2 : ℕ) (bytes : List ℕ) (m : Machine) where
   unfolding call_by_code first_rule
   code-cpu = refl
 
-  pub at_code : {code known : ℕ} → code ≡ known → call_by_code cpu known a1 a2 bytes m ≡ call_by_code cpu code a1 a2 bytes m
-  at_code e = ap (λ (k : ℕ). call_by_code cpu k a1 a2 bytes m) (sym e)
-
 -- ---- the machine where a call is counted
 
-pub counted-parts : {boot : ℕ} {pool remap : Pool} {pages ids : ℕ} {w : Waiting} (cpu : ℕ) (m : Machine) → Parts boot pool remap pages ids w m
-    → Parts boot pool remap pages ids w (counted call_counter cpu m)
-unfolding counted with_cpus
-counted-parts cpu m h = record { boot = h.boot; pool = h.pool; remap = h.remap; used = h.used; ids = h.ids; waits = h.waits }
-
--- with the sets of cells, of a code that looks at them
-module _ {boot : ℕ} {pool remap : Pool} {pages ids : ℕ} {cells : CellSets} {w : Waiting} {cpu code a1 : ℕ} {bytes : List ℕ} {p : Cpu} {own : CommRegion}
-    {q : Cpu} {scan : ℤ} {m : Machine} (known : ℕ) (looks : leb known cell_destroy ≡ true) (is : code ≡ known)
-    (h : CallParts boot pool remap pages ids cells w cpu code a1 bytes p own q scan m) where
-  pub with-sets : WithSets cells (counted call_counter cpu m)
+module _ (m : Machine) (cpu : ℕ) where
+  pub same-waiting : (counted call_counter cpu m).waiting ≡ m.waiting
   unfolding counted with_cpus
-  with-sets = record {
-    sets = same-sets cells m (counted call_counter cpu m) refl refl (h.sets (ap (λ (k : ℕ). leb k cell_destroy) is ∙ looks));
-    size = h.table;
-  }
+  same-waiting = refl
 
-  pub with-waiting : Waits ids cells w (counted call_counter cpu m)
-  with-waiting = let next = counted-parts cpu m h.parts in record { ids = next.ids; parts = with-sets; waits = next.waits }
+  pub same-ids : (counted call_counter cpu m).live_ids ≡ m.live_ids
+  unfolding counted with_cpus
+  same-ids = refl
 
--- the caller's cell
-pub counted-cell : (m : Machine) (cpu : ℕ) (p : Cpu) → cpu_at m cpu ≡ p → (cpu_at (counted call_counter cpu m) cpu).cell ≡ p.cell
-unfolding change_of count_exit
-counted-cell m cpu p e = ap (λ (x : Cpu). x.cell) (caller-counted m cpu p e)
+  pub with-sets : (cells : CellSets) → Sets cells m → length m.comms ≡ max_cells → WithSets cells (counted call_counter cpu m)
+  unfolding counted with_cpus
+  with-sets cells s size = record { sets = same-sets cells m (counted call_counter cpu m) refl refl s; size = size }
+
+  pub same-info : (kind : ℕ) → get_info kind m ≡ get_info kind (counted call_counter cpu m)
+  unfolding get_info counted with_cpus
+  same-info kind = refl
+
+  pub same-state : (id : ℕ) → get_state id m ≡ get_state id (counted call_counter cpu m)
+  unfolding get_state counted with_cpus
+  same-state id = refl
+  -- the caller's cell
+
+-- the call that an arm knows
+pub at-call : (m : Machine) (cpu a1 a2 : ℕ) (bytes : List ℕ) (mv : Move) {call known : CallCode} → call ≡ known
+    → Calls m cpu (cell_of bytes) (call_by_code cpu (call_number known) a1 a2 bytes) mv → Calls m cpu (cell_of bytes) (call_by_code cpu (call_number call) a1 a2 bytes) mv
+at-call m cpu a1 a2 bytes mv q r = subst (λ (x : CallCode). Calls m cpu (cell_of bytes) (call_by_code cpu (call_number x) a1 a2 bytes) mv) (sym q) r
+
+pub small : (call : CallCode) → call_number call ≤ cpu_get_info_code
+small HypervisorDisable = omega arith
+small CellCreate = omega arith
+small CellStart = omega arith
+small CellSetLoadable = omega arith
+small CellDestroy = omega arith
+small HypervisorGetInfo = omega arith
+small CellGetState = omega arith
+small CpuGetInfo = omega arith
 
 module _ (cpu code a1 a2 : ℕ) (bytes : List ℕ) (m : Machine) where
   pub unknown-code : cpu_get_info_code < code → ends ENOSYS m ≡ call cpu code a1 a2 bytes m
@@ -146,26 +169,14 @@ module _ (cpu code a1 a2 : ℕ) (bytes : List ℕ) (m : Machine) where
   abbrev barred : ℕ → Bool
   barred cell = not (eqb cell root_id) && (leb code cell_destroy || eqb code cell_get_state)
 
-  module _ (known : code ≤ cpu_get_info_code) (cell : ℕ) (own : (cpu_at m cpu).cell ≡ cell) where
-    pub not-root's : barred cell ≡ true → ends EPERM m ≡ call cpu code a1 a2 bytes m
-    unfolding call
-    not-root's e = rule-holds _ _ _ (ap barred own ∙ e) ∙ rule-passed _ _ _ (le-ltb cpu_get_info_code code known)
+  module _ (known : code ≤ cpu_get_info_code) (cell : ℕ) (own : (cpu_at m cpu).cell ≡ cell) (alone : Bool) (is : alone ≡ roots_alone code) where
+    pub not-root's : (not (eqb cell root_id) && alone) ≡ true → ends EPERM m ≡ call cpu code a1 a2 bytes m
+    unfolding call roots_alone
+    not-root's e =
+        rule-holds _ _ _ (ap barred own ∙ ap (λ (b : Bool). not (eqb cell root_id) && b) (sym is) ∙ e) ∙ rule-passed _ _ _ (le-ltb cpu_get_info_code code known)
 
-    pub by-its-code : barred cell ≡ false → call_by_code cpu code a1 a2 bytes m ≡ call cpu code a1 a2 bytes m
-    unfolding call
-    by-its-code e = no-rule _ ∙ rule-passed _ _ _ (ap barred own ∙ e) ∙ rule-passed _ _ _ (le-ltb cpu_get_info_code code known)
-
--- a signed number that is handed on goes through its bits
-module _ {boot : ℕ} {pool remap : Pool} {pages ids : ℕ} {cells : CellSets} {call : Waiting} {bytes : List ℕ} {p : Cpu} {w : CommRegion} {q : Cpu}
-    {scan back : ℤ} {m : Machine} (same : back ≡ scan) where
-  pub call-passed : {cpu code a1 : ℕ} → CallParts boot pool remap pages ids cells call cpu code a1 bytes p w q scan m
-      → CallParts boot pool remap pages ids cells call cpu code a1 bytes p w q back m
-  call-passed h = record {
-    parts = h.parts;
-    sets = h.sets;
-    table = h.table;
-    caller = h.caller;
-    words = h.words;
-    asked = h.asked;
-    scan = λ e. same ∙ h.scan e;
-  }
+    pub by-its-code : (not (eqb cell root_id) && alone) ≡ false → call_by_code cpu code a1 a2 bytes m ≡ call cpu code a1 a2 bytes m
+    unfolding call roots_alone
+    by-its-code e =
+        no-rule _ ∙ rule-passed _ _ _ (ap barred own ∙ ap (λ (b : Bool). not (eqb cell root_id) && b) (sym is) ∙ e)
+        ∙ rule-passed _ _ _ (le-ltb cpu_get_info_code code known)

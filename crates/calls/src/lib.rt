@@ -1,153 +1,109 @@
-// What a call decides, by its code: a move, read from small parts of the machine. The caller's CPU is
-// given as it is before its call is counted.
+// What a call decides, by its code: a move, read from the machine before the call is counted.
 #![tactic(auto)]
 
-ghost use Rattle.std.specs.Prelude.{◌≡◌, List, ℕ, ◌<◌, ◌≤◌, ℤ};
-ghost use Rattle.machine_state.specs.declared.Waiting.{Waiting};
-ghost use Rattle.machine_state.specs.declared.Machine.{Machine};
-ghost use Rattle.rules.specs.State.{answered};
-ghost use Rattle.rules.specs.Effects.{counted, call_counter};
-ghost use Rattle.rules.specs.Calls.{target_call, call_by_code, call as call_of};
-ghost use Rattle.comms.specs.declared.CellSets.{CellSets};
+ghost use Rattle.std.specs.Prelude.{◌≡◌, ℕ};
+ghost use Rattle.base.specs.Codes.{number_of};
+ghost use Rattle.cell_record.specs.declared.CellConfig.{CellConfig};
+ghost use Rattle.cell_record.specs.CellRecord.{cell_of};
+ghost use Rattle.machine_state.specs.CallCodes.{call_number};
+ghost use Rattle.rules.specs.Queries.{low31 as low31_of};
+ghost use Rattle.rules.specs.Calls.{ends, create_call, target_call, call_by_code, call as call_of};
 ghost use Rattle.asking.specs.Moves.{Moves};
-ghost use Rattle.create_rules.specs.Rows.{create_code};
-ghost use Rattle.calls.specs.Calls.{CallParts, Waits, Creates, Calls};
+ghost use Rattle.queries.specs.Figures.{figure_code};
+ghost use Rattle.calls.specs.Calls.{Calls, roots_alone};
 
 use asking::Move;
-use base::{EINVAL, ENOENT, ENOSYS, EPERM};
-use comms::CellSets;
-use machine_state::{
-    Answer, CELL_CREATE, CELL_DESTROY, CELL_GET_STATE, CELL_SET_LOADABLE, CELL_START, CPU_GET_INFO,
-    CallKind, CommRegion, Cpu, HYPERVISOR_DISABLE, HYPERVISOR_GET_INFO, Waiting,
-};
-use system_record::Pool;
+use base::Errno;
+use machine_state::{Answer, CallCode, CallKind, Machine};
+
+// A call that ends at once with a refusal, and changes nothing more.
+fn refused(m: &Machine, why: Errno) -> Move
+    ensures { Moves (λ x. x.waiting ≡ m.now.waiting) (λ new x. ends (number_of why) x) result }
+{
+    asking::stay(Answer::Code(i32::from(why)), m.waiting)
+}
+
+// The low 31 bits of a number, as a return code.
+fn low31(n: u32) -> i32
+    ensures { result ≡ low31_of n }
+{
+    (n % 0x8000_0000) as i32
+}
+
+// A query, which changes nothing: its figure, or its refusal.
+fn told(m: &Machine, figure: Result<u32, Errno>) -> Move
+    ensures { Moves (λ x. x.waiting ≡ m.now.waiting) (λ new x. ends (figure_code figure) x) result }
+{
+    match figure {
+        Ok(n) => asking::stay(Answer::Code(low31(n)), m.waiting),
+        Err(why) => refused(m, why),
+    }
+}
 
 // Start, Set Loadable and Destroy.
-fn target_call(live_ids: u16, cells: CellSets, waiting: Waiting, kind: CallKind, id: u64) -> Move
-    ensures { Moves (Waits live_ids cells waiting) (target_call kind id) result }
+fn target_call(m: &Machine, kind: CallKind, id: u64) -> Move
+    ensures { (cpu : ℕ) (new : CellConfig) → Calls m.now cpu new (target_call kind id new) result }
 {
     if id == 0 {
-        return asking::stay(Answer::Code(EINVAL), waiting);
+        return refused(m, Errno::Invalid);
     }
-    if !id_set::is_live(live_ids, id) {
-        return asking::stay(Answer::Code(ENOENT), waiting);
+    if !id_set::is_live(m.live_ids, id) {
+        return refused(m, Errno::NoEntry);
     }
+    let cells = comms::cell_sets(m);
     let target = id as usize;
-    if asking::is_destroy(kind) & comms::is_locked_but(cells.locked, target) {
-        return asking::stay(Answer::Code(EPERM), waiting);
+    if asking::is_destroy(kind) && comms::is_locked_but(cells.locked, target) {
+        return refused(m, Errno::NotPermitted);
     }
     asking::ask(cells, kind, target, 0)
 }
 
-// Create, which `scan` refuses or lets through.
-fn create_call(live_ids: u16, cells: CellSets, waiting: Waiting, scan: i32) -> Move
-    ensures { (caller : ℕ) (bytes : List ℕ) → Creates (λ m. Waits live_ids cells waiting m × (scan ≡ create_code caller bytes m)) caller bytes result }
+// Create, of CPU `caller`.
+fn create_call(m: &Machine, caller: u64, record: &[u8]) -> Move
+    ensures { Calls m.now caller (cell_of «record».now) (create_call caller «record».now) result }
 {
-    if scan == 0 {
-        let id = id_set::free_id(live_ids);
-        return asking::ask(cells, CallKind::Create, id, 0);
+    match create_rules::refusal(m, caller, record) {
+        Ok(id) => asking::ask(comms::cell_sets(m), CallKind::Create, id, 0),
+        Err(why) => refused(m, why),
     }
-    asking::stay(Answer::Code(scan), waiting)
 }
 
-// The answer of a query of CPU `cpu`, which is `p`, with the words and the CPU that it asks about.
-fn query(
-    boot_cpus: u64,
-    pool: Pool,
-    remap: Pool,
-    pool_used: u32,
-    live_ids: u16,
-    p: Cpu,
-    w: CommRegion,
-    q: Cpu,
-    cpu: u64,
-    code: u32,
-    a1: u64,
-    a2: u64,
-) -> Answer
-    requires { (4 < code) × (code ≤ 7) }
-    ensures { (cells : CellSets) (waiting : Waiting) (bytes : List ℕ) (scan : ℤ) (m : Machine) → CallParts boot_cpus pool remap pool_used live_ids cells waiting cpu code a1 bytes p w q scan m → answered result (counted call_counter cpu m) ≡ call_by_code cpu code a1 a2 bytes (counted call_counter cpu m) }
+// The call that a code means, of CPU `cpu`.
+fn by_code(m: &Machine, cpu: u64, call: CallCode, a1: u64, a2: u64, record: &[u8]) -> Move
+    ensures { Calls m.now cpu (cell_of «record».now) (call_by_code cpu (call_number call) a1 a2 «record».now) result }
 {
-    if code == HYPERVISOR_GET_INFO {
-        return queries::get_info(pool, remap, pool_used, live_ids, a1);
+    match call {
+        CallCode::HypervisorDisable => { asking::ask(comms::cell_sets(m), CallKind::Disable, 0, 0) }
+        CallCode::CellCreate => create_call(m, cpu, record),
+        CallCode::CellStart => target_call(m, CallKind::Start, a1),
+        CallCode::CellSetLoadable => target_call(m, CallKind::SetLoadable, a1),
+        CallCode::CellDestroy => target_call(m, CallKind::Destroy, a1),
+        CallCode::HypervisorGetInfo => told(m, queries::get_info(m, a1)),
+        CallCode::CellGetState => told(m, queries::get_state(m, a1)),
+        CallCode::CpuGetInfo => told(m, queries::cpu_get_info(m, cpu, a1, a2)),
     }
-    if code == CELL_GET_STATE {
-        return queries::get_state(live_ids, w, a1);
-    }
-    queries::cpu_get_info(boot_cpus, p, q, cpu, a1, a2)
 }
 
-// The call that a code means, already counted.
-fn by_code(
-    boot_cpus: u64,
-    pool: Pool,
-    remap: Pool,
-    pool_used: u32,
-    live_ids: u16,
-    cells: CellSets,
-    waiting: Waiting,
-    p: Cpu,
-    w: CommRegion,
-    q: Cpu,
-    scan: i32,
-    cpu: u64,
-    code: u32,
-    a1: u64,
-    a2: u64,
-) -> Move
-    requires { code ≤ 7 }
-    ensures { (bytes : List ℕ) → Calls (CallParts boot_cpus pool remap pool_used live_ids cells waiting cpu code a1 bytes p w q scan) cpu bytes (call_by_code cpu code a1 a2 bytes) result }
+// Whether a call is root's alone.
+#[tactic(auto, unfolding(crate::specs::Calls::roots_alone))]
+fn is_roots_alone(call: CallCode) -> bool
+    ensures { result ≡ roots_alone (call_number call) }
 {
-    if code == HYPERVISOR_DISABLE {
-        return asking::ask(cells, CallKind::Disable, 0, 0);
-    }
-    if code == CELL_CREATE {
-        return create_call(live_ids, cells, waiting, scan);
-    }
-    if code == CELL_START {
-        return target_call(live_ids, cells, waiting, CallKind::Start, a1);
-    }
-    if code == CELL_SET_LOADABLE {
-        return target_call(live_ids, cells, waiting, CallKind::SetLoadable, a1);
-    }
-    if code == CELL_DESTROY {
-        return target_call(live_ids, cells, waiting, CallKind::Destroy, a1);
-    }
-    let answer = query(
-        boot_cpus, pool, remap, pool_used, live_ids, p, w, q, cpu, code, a1, a2,
-    );
-    asking::stay(answer, waiting)
+    !matches!(call, CallCode::HypervisorGetInfo | CallCode::CpuGetInfo)
 }
 
-// A call that is obeyed, of CPU `cpu`, which is `p`: its move where it is counted, with the words and
-// the CPU that it asks about; `scan` says of a Create the code that refuses it, or 0.
-pub fn call(
-    boot_cpus: u64,
-    pool: Pool,
-    remap: Pool,
-    pool_used: u32,
-    live_ids: u16,
-    cells: CellSets,
-    waiting: Waiting,
-    p: Cpu,
-    w: CommRegion,
-    q: Cpu,
-    scan: i32,
-    cpu: u64,
-    code: u32,
-    a1: u64,
-    a2: u64,
-) -> Move
-    ensures { (bytes : List ℕ) → Calls (CallParts boot_cpus pool remap pool_used live_ids cells waiting cpu code a1 bytes p w q scan) cpu bytes (call_of cpu code a1 a2 bytes) result }
+// A call that is obeyed, of CPU `cpu`: its move where it is counted.
+pub fn call(m: &Machine, cpu: u64, code: u32, a1: u64, a2: u64, record: &[u8]) -> Move
+    ensures { Calls m.now cpu (cell_of «record».now) (call_of cpu code a1 a2 «record».now) result }
 {
-    if CPU_GET_INFO < code {
-        return asking::stay(Answer::Code(ENOSYS), waiting);
+    let caller = cpu_table::owner(&m.cpus, cpu);
+    match CallCode::try_from(code) {
+        Ok(call) => {
+            if (caller != 0) & is_roots_alone(call) {
+                return refused(m, Errno::NotPermitted);
+            }
+            by_code(m, cpu, call, a1, a2, record)
+        }
+        Err(_) => refused(m, Errno::NoSuchCall),
     }
-    if !(p.cell == 0) & ((code <= CELL_DESTROY) | (code == CELL_GET_STATE)) {
-        return asking::stay(Answer::Code(EPERM), waiting);
-    }
-    by_code(
-        boot_cpus, pool, remap, pool_used, live_ids, cells, waiting, p, w, q, scan, cpu, code, a1,
-        a2,
-    )
 }

@@ -1,36 +1,33 @@
 // When Create is refused: a locked configuration, a bad record, names, CPUs and memory that others
 // have, no room. Each test looks at the parts of the machine that its rule names, and at the new
-// cell's record in its bytes; what the live cells have comes as what a look at them found
-// (`live_cells`).
+// cell's record in its bytes; the live cells are looked at (`live_cells`) once the record is valid.
 #![tactic(auto)]
 
-ghost use Rattle.std.specs.Prelude.{◌≡◌, ◌+◌, ltb};
+ghost use Rattle.std.specs.Prelude.{◌≡◌, ℕ, ◌+◌, ltb, Ok};
+ghost use Rattle.base.specs.Codes.{code_of};
 ghost use Rattle.cell_record.specs.CellRecord.{cell_of};
-ghost use Rattle.machine_state.specs.declared.Machine.{Machine};
-ghost use Rattle.rules.specs.Create.{no_room, some_cell_locked};
+ghost use Rattle.rules.specs.Create.{free_id};
 ghost use Rattle.rules.specs.Effects.{pool_cost};
-ghost use Rattle.live_cells.specs.Looks.{found_live};
-ghost use Rattle.create_rules.specs.Rows.{use_code, create_code};
+ghost use Rattle.create_rules.specs.Rows.{use_code, new_id, code_of_id, create_code};
 
-use base::{E2BIG, EBUSY, EEXIST, EINVAL, ENOMEM, EPERM};
-use live_cells::Found;
-use machine_state::MAX_CELLS;
-use system_record::SystemConfig;
+use base::Errno;
+use machine_state::{CELL_CREATE, Event, Machine};
 
-// The code where the record's name, or a CPU or a region that it wants, is in use, and 0 where
-// none is. `root` is root's name, and `found` what a look at all live cells found.
-fn in_use(root: [u8; 32], root_cpus: u64, found: Found, caller: u64, record: &[u8]) -> i32
-    ensures { (m : Machine) → m.system.name ≡ root → m.root_cpus ≡ root_cpus → found ≡ found_live «record».now m → result ≡ use_code caller «record».now m }
+// Refuses where the record's name, or a CPU or a region that it wants, is in use.
+fn in_use(m: &Machine, caller: u64, record: &[u8]) -> Result<(), Errno>
+    ensures { code_of result ≡ use_code caller «record».now m.now }
 {
     let name = cell_record::name(record);
-    if fields::same_name(root, name) | found.named {
-        return EEXIST;
+    let asks = Event::Call(caller, CELL_CREATE, 0, 0);
+    let found = live_cells::look_through(asks, m.live_ids, &m.cells, record);
+    if fields::same_name(m.system.name, name) | found.named {
+        return Err(Errno::Exists);
     }
     let cpus = fields::u64_at(record, 40);
-    if cpu_set::contains(cpus, caller) | !cpu_set::is_subset(cpus, root_cpus) | found.held {
-        return EBUSY;
+    if cpu_set::contains(cpus, caller) | !cpu_set::is_subset(cpus, m.root_cpus) | found.held {
+        return Err(Errno::Busy);
     }
-    0
+    Ok(())
 }
 
 // Whether a pool of `pages` has no room for one more cell of `count` regions.
@@ -44,43 +41,33 @@ fn lacks_pages(pages: u32, pool_used: u32, count: usize) -> bool
     pages as usize - least < count
 }
 
-// Whether there is no ID or no room in the pool for the record's cell.
-fn no_room(pages: u32, pool_used: u32, live_ids: u16, record: &[u8]) -> bool
-    ensures { (m : Machine) → m.system.pool.pages ≡ pages → m.pool_used ≡ pool_used → m.live_ids ≡ live_ids → result ≡ no_room (cell_of «record».now) m }
+// The new cell's ID, where one is free and the pool has room for the record's cell.
+fn new_id(m: &Machine, record: &[u8]) -> Option<usize>
+    ensures { result ≡ new_id (cell_of «record».now) m.now }
 {
     let count = fields::u16_at(record, 48) as usize;
-    (id_set::free_id(live_ids) == MAX_CELLS) | lacks_pages(pages, pool_used, count)
+    if lacks_pages(m.system.pool.pages, m.pool_used, count) {
+        return None;
+    }
+    id_set::free_id(m.live_ids)
 }
 
-// The code with which Create is refused, 0 where it is not: its rules in their order. `locked` says
-// whether some cell has locked the configuration, and `found` what a look at all live cells found.
-pub fn refusal(
-    system: SystemConfig,
-    pool_used: u32,
-    live_ids: u16,
-    root_cpus: u64,
-    locked: bool,
-    found: Found,
-    caller: u64,
-    record: &[u8],
-) -> i32
-    ensures { (m : Machine) → m.system ≡ system → m.pool_used ≡ pool_used → m.live_ids ≡ live_ids → m.root_cpus ≡ root_cpus → locked ≡ some_cell_locked m → found ≡ found_live «record».now m → result ≡ create_code caller «record».now m }
+// Refuses a Create, or lets it through with the new cell's ID: its rules in their order.
+pub fn refusal(m: &Machine, caller: u64, record: &[u8]) -> Result<usize, Errno>
+    ensures code { code_of_id result ≡ create_code caller «record».now m.now }
+    ensures id { (id : ℕ) → result ≡ Ok id → id ≡ free_id m.now }
 {
+    let locked = comms::is_locked_but(comms::cell_sets(m).locked, 0);
     if locked {
-        return EPERM;
+        return Err(Errno::NotPermitted);
     }
     if cell_rules::MAX_LENGTH < record.len() {
-        return E2BIG;
+        return Err(Errno::TooBig);
     }
     let cpus = fields::u64_at(record, 40);
-    if !cell_rules::is_valid(system, record) | !cpu_set::is_subset(cpus, system.cpus) {
-        return EINVAL;
+    if !cell_rules::is_valid(&m.system, record) || !cpu_set::is_subset(cpus, m.system.cpus) {
+        return Err(Errno::Invalid);
     }
-    let root = system.name;
-    let code = in_use(root, root_cpus, found, caller, record);
-    let pool = system.pool;
-    if (code == 0) & no_room(pool.pages, pool_used, live_ids, record) {
-        return ENOMEM;
-    }
-    code
+    in_use(m, caller, record)?;
+    new_id(m, record).ok_or(Errno::NoMemory)
 }

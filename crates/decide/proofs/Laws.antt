@@ -2,15 +2,12 @@
 -- the rule stores, counts and marks. Assumes nothing.
 use mathlib.Core.Bool.{Bool, true, false, not, ◌&&◌}
 use mathlib.Core.List.{List}
-use mathlib.Core.Path.{◌≡◌, refl, sym, ap, ◌∙◌}
+use mathlib.Core.Path.{◌≡◌, refl, sym, ap, ap₂, subst, ◌∙◌}
 use mathlib.Core.Logic.{⊎_elim}
 use Prim.Native.Nat.{ℕ, ◌+◌, ◌<◌, ◌≤◌}
 use native.Mathlib.Omega.{arith}
-use mir.Syntax.{w32}
-use mir.Val.{of_z}
-use borrow.Author.Tests.{ltb-true, lt-ltb, le-ltb}
+use borrow.Author.Tests.{ltb-true, lt-ltb, le-ltb, eq-eqb, ne_eqb}
 use lib.Dec.{ltb, eqb}
-use lib.IntN.{ℤ, pos}
 use lib.ListN.{length, set}
 use Rattle.base.proofs.Tests.{fails, le-or-lt}
 use lib.Seq.{set-get_or, set_out}
@@ -21,69 +18,68 @@ use Rattle.machine_state.specs.declared.CommRegion.{CommRegion}
 use Rattle.machine_state.specs.declared.Cpu.{Cpu}
 use Rattle.machine_state.specs.declared.Machine.{Machine}
 use Rattle.machine_state.specs.declared.Stepped.{Stepped}
-use Rattle.machine_state.specs.declared.Waiting.{Waiting}
 use Rattle.machine_state.specs.Machine.{past_cpu, max_cells, max_cpus}
 use Rattle.rules.specs.State.{root_id, failed, is_final, cell_at, comm_at, state_at, cpu_at, with_waiting, with_comm, with_cpus, answered}
 use Rattle.rules.specs.Effects.{counted, exit_counter, store_word, stored, with_state, fail_cpu, all_failed, cell_failed, faulted}
 use Rattle.cpu_table.specs.declared.CpuChange.{CpuChange}
-use Rattle.cpu_table.specs.declared.CpuChange.TheVariants as CpuChange
 use Rattle.cpu_table.specs.CpuTable.{change_of, touched}
-use Rattle.cpu_table.proofs.Laws.{cpu-inside}
 use Rattle.comms.specs.declared.WordsChange.TheVariants.{Store}
-use Rattle.comms.specs.Comms.{words_of, words_at, Index, cell_index}
-use Rattle.comms.proofs.Laws.{cell-inside}
-use Rattle.asking.specs.declared.Effect.TheVariants.{NoEffect}
+use Rattle.comms.specs.Comms.{words_of, words_at}
+use Rattle.std.specs.Prelude.{None}
 use Rattle.asking.specs.declared.Move.{Move}
 use Rattle.asking.specs.Moves.{effect_of, moved, Moves, cut_off_at}
-use Rattle.scans.specs.Scan.{cell_fails, scan_of}
 use Rattle.decide.specs.declared.Decision.{Decision}
-use Rattle.decide.specs.Decide.{settled, Settles, Faulty}
+use Rattle.decide.specs.Decide.{settled, Settles, cell_fails}
 
--- a decision by one rule is one by another that says the same of its machines
-pub settles-as : {has one : Machine → Type 0} {new : CellConfig} {rule first : Machine → Stepped} {d : Decision} → Settles one new first d
-    → ((m : Machine) → has m → one m) → ((m : Machine) → has m → first m ≡ rule m) → Settles has new rule d
-settles-as s f e = record { settles = λ m h. s.settles m (f m h) ∙ e m h; cpu = s.cpu; cell = s.cell }
+-- a decision by one rule is one by another that says the same
+pub settles-as : {m : Machine} {new : CellConfig} {first after : Stepped} {d : Decision} → Settles m new first d → first ≡ after → Settles m new after d
+settles-as s e = record { settles = s.settles ∙ e; cpu = s.cpu; cell = s.cell }
+
+-- of a decision that is another
+pub settles-at : {m : Machine} {new : CellConfig} {after : Stepped} {d known : Decision} → d ≡ known → Settles m new after known → Settles m new after d
+settles-at {m} {new} {after} e s = subst (λ (x : Decision). Settles m new after x) (sym e) s
 
 -- a CPU that is kept
 pub kept-cpu : (cpu : ℕ) (m : Machine) → touched cpu CpuChange.Keep m ≡ m
 unfolding touched change_of with_cpus
 kept-cpu cpu m = ap (λ (cpus : List Cpu). with_cpus cpus m) (set-get_or m.cpus cpu past_cpu)
 
--- an answer, and nothing but one CPU's change
-pub only-cpu : (cpu : ℕ) (how : CpuChange) (answer : Answer) (waiting : Waiting) (mv : Move) → cpu < max_cpus
-    → Moves (λ m. m.waiting ≡ waiting) (λ new m. answered answer m) mv
-    → (new : CellConfig) → Settles (λ m. m.waiting ≡ waiting) new (λ m. answered answer (touched cpu how m)) (record { cpu = cpu; touch = how; cut = 16; moves = mv })
-unfolding settled cut_off_at touched with_cpus
-only-cpu cpu how answer waiting mv h r new = record { settles = λ m e. r.moves (touched cpu how m) new e; cpu = h; cell = r.place }
+module _ (m : Machine) (new : CellConfig) where
+  -- an answer, and nothing but one CPU's change
+  pub only-cpu : (cpu : ℕ) (how : CpuChange) (answer : Answer) (mv : Move) → cpu < max_cpus
+      → Moves (λ x. x.waiting ≡ m.waiting) (λ new x. answered answer x) mv
+      → Settles m new (answered answer (touched cpu how m)) (record { cpu = cpu; touch = how; cut = None; moves = mv })
+  unfolding settled cut_off_at touched with_cpus
+  only-cpu cpu how answer mv h r = record { settles = r.moves (touched cpu how m) new refl; cpu = h; cell = r.place }
 
-pub leaves : (answer : Answer) (waiting : Waiting) (mv : Move) → Moves (λ m. m.waiting ≡ waiting) (λ new m. answered answer m) mv
-    → (new : CellConfig) → Settles (λ m. m.waiting ≡ waiting) new (answered answer) (record { cpu = 0; touch = CpuChange.Keep; cut = 16; moves = mv })
-leaves answer waiting mv r new =
-    settles-as (only-cpu 0 CpuChange.Keep answer waiting mv (omega arith) r new) (λ m e. e) (λ m e. ap (answered answer) (kept-cpu 0 m))
+  pub leaves : (answer : Answer) (mv : Move) → Moves (λ x. x.waiting ≡ m.waiting) (λ new x. answered answer x) mv
+      → Settles m new (answered answer m) (record { cpu = 0; touch = CpuChange.Keep; cut = None; moves = mv })
+  leaves answer mv r = settles-as (only-cpu 0 CpuChange.Keep answer mv (omega arith) r) (ap (answered answer) (kept-cpu 0 m))
 
-pub exits : (cpu kind : ℕ) (waiting : Waiting) (mv : Move) → cpu < max_cpus → Moves (λ m. m.waiting ≡ waiting) (λ new m. answered Done m) mv
-    → (new : CellConfig)
-    → Settles (λ m. m.waiting ≡ waiting) new (λ m. answered Done (counted (exit_counter kind) cpu m))
-    (record { cpu = cpu; touch = CpuChange.Count (kind + 1); cut = 16; moves = mv })
-unfolding counted touched change_of
-exits cpu kind waiting mv h r new = only-cpu cpu (CpuChange.Count (kind + 1)) Done waiting mv h r new
+  pub exits : (cpu kind : ℕ) (mv : Move) → cpu < max_cpus → Moves (λ x. x.waiting ≡ m.waiting) (λ new x. answered Done x) mv
+      → Settles m new (answered Done (counted (exit_counter kind) cpu m)) (record { cpu = cpu; touch = CpuChange.Count (kind + 1); cut = None; moves = mv })
+  unfolding counted touched change_of
+  exits cpu kind mv h r = only-cpu cpu (CpuChange.Count (kind + 1)) Done mv h r
 
--- an answer, one CPU's change and one cell's words
-module _ (waiting : Waiting) (new : CellConfig) (m : Machine) (w : m.waiting ≡ waiting) where
+  -- an answer, one CPU's change and one cell's words
   abbrev store_at : ℕ → ℕ → ℕ → Move
-  store_at cell word value = record { answer = Done; effect = NoEffect; cell = cell; words = Store word value; waiting = waiting }
+  store_at cell word value = record { answer = Done; effect = None; cell = cell; words = Store word value; waiting = m.waiting }
 
-  stored_at : (cell word value : ℕ) → moved (store_at cell word value) new m ≡ answered Done (words_at cell (Store word value) m)
-  unfolding moved effect_of words_at with_comm with_waiting
-  stored_at cell word value = ap (λ (call : Waiting). answered Done (with_waiting call (words_at cell (Store word value) m))) (sym w)
+  stored_at : (how : CpuChange) (cpu cell word value : ℕ)
+      → moved (store_at cell word value) new (touched cpu how m) ≡ answered Done (words_at cell (Store word value) (touched cpu how m))
+  unfolding moved effect_of words_at with_comm with_waiting touched with_cpus
+  stored_at how cpu cell word value = refl
 
-  pub stores : (cpu word value : ℕ) (p : Cpu) → cpu_at m cpu ≡ p
-      → settled (record { cpu = cpu; touch = CpuChange.Keep; cut = 16; moves = store_at p.cell word value }) new m
-      ≡ answered Done (stored cpu word value m)
+  pub stores : (cpu word value : ℕ) → cpu < max_cpus → (cpu_at m cpu).cell < max_cells
+      → Settles m new (answered Done (stored cpu word value m))
+      (record { cpu = cpu; touch = CpuChange.Keep; cut = None; moves = store_at (cpu_at m cpu).cell word value })
   unfolding settled cut_off_at stored words_at words_of
-  stores cpu word value p e =
-      ap (moved (store_at p.cell word value) new) (kept-cpu cpu m) ∙ stored_at p.cell word value
-      ∙ ap (λ (x : Cpu). answered Done (words_at x.cell (Store word value) m)) (sym e)
+  stores cpu word value h inside = record {
+    settles = stored_at CpuChange.Keep cpu (cpu_at m cpu).cell word value
+        ∙ ap (λ (x : Machine). answered Done (words_at (cpu_at m cpu).cell (Store word value) x)) (kept-cpu cpu m);
+    cpu = h;
+    cell = inside;
+  }
 
 -- ---- faults
 
@@ -160,53 +156,56 @@ module _ (cpu : ℕ) (m : Machine) where
       second true false c d e = absurd (fails {b = true} (sym e) tt)
       second false b c d e = absurd (fails {b = true} (sym e) tt)
 
-module _ (scan : ℤ) (p : Cpu) (waiting : Waiting) (cpu : ℕ) (inside : cpu < max_cpus) where
-  -- what the scan of a fault says
-  pub scan-fails : (m : Machine) → Faulty scan p waiting cpu m → (b : Bool) → cell_fails cpu m ≡ b → scan ≡ elim b as (λ x. ℤ) [ true ↦ pos 1 | false ↦ pos 0 ]
-  unfolding scan_of
-  scan-fails m h b e =
-      h.scan ∙ ap (λ (k : ℕ). elim (cell_fails k m) as (λ x. ℤ) [ true ↦ pos 1 | false ↦ pos 0 ]) (cpu-inside cpu inside)
-      ∙ ap (λ (x : Bool). elim x as (λ y. ℤ) [ true ↦ pos 1 | false ↦ pos 0 ]) e
-
-  pub scan-none : (m : Machine) → Faulty scan p waiting cpu m → of_z w32 scan ≡ 0 → cell_fails cpu m ≡ false
-  scan-none m h z = go (cell_fails cpu m) refl
+  -- the test of the code is the definition's
+  pub past-table : max_cells ≤ own-cell → false ≡ cell_fails cpu m
+  unfolding cell_fails
+  past-table h =
+      sym (ap (λ (b : Bool). not (eqb own-cell root_id) && b && others && not (is_final (state_at m own-cell))) (le-ltb own-cell max_cells h)
+      ∙ none (not (eqb own-cell root_id)) others (not (is_final (state_at m own-cell))))
     where
-      one : (n : ℤ) → n ≡ pos 1 → of_z w32 n ≡ 0 → ⊥
-      one n e q = let k : ◌≡◌ {A = ℕ} 1 0 = sym (ap (of_z w32) e) ∙ q in omega arith
+      none : (a b c : Bool) → (a && false && b && c) ≡ false
+      none true b c = refl
+      none false b c = refl
 
-      go : (b : Bool) → cell_fails cpu m ≡ b → b ≡ false
-      go true e = absurd (one scan (scan-fails m h true e) z)
-      go false e = refl
+  -- its first two tests, of which the second is asked where the first holds
+  pub cell-by : (own-cell ≡ 0 → ⊥) → (all both : Bool) → all ≡ others → both ≡ all → both ≡ (not (eqb own-cell root_id) && others)
+  cell-by n all both e q = q ∙ e ∙ sym (ap (λ (b : Bool). not b && others) (ne_eqb own-cell root_id n))
 
-  pub scan-some : (m : Machine) → Faulty scan p waiting cpu m → (of_z w32 scan ≡ 0 → ⊥) → cell_fails cpu m ≡ true
-  scan-some m h n = go (cell_fails cpu m) refl
-    where
-      go : (b : Bool) → cell_fails cpu m ≡ b → b ≡ true
-      go true e = refl
-      go false e = absurd (n (ap (of_z w32) (scan-fails m h false e)))
+  pub root-by : own-cell ≡ 0 → (both : Bool) → both ≡ not (eqb own-cell root_id) → both ≡ (not (eqb own-cell root_id) && others)
+  root-by z both q = q ∙ ap not (eq-eqb own-cell root_id z) ∙ sym (ap (λ (b : Bool). not b && others) (eq-eqb own-cell root_id z))
 
-  pub faults : (mv : Move) → of_z w32 scan ≡ 0 → Moves (λ m. m.waiting ≡ waiting) (λ new m. answered Done m) mv → (new : CellConfig)
-      → Settles (Faulty scan p waiting cpu) new (λ m. answered Done (faulted cpu m)) (record { cpu = cpu; touch = CpuChange.Fail; cut = 16; moves = mv })
-  faults mv z r new =
-      settles-as (only-cpu cpu CpuChange.Fail Done waiting mv inside r new) (λ m h. h.waits)
-      (λ m h. ap (answered Done)
-      (ap (by-test (cpu_at m cpu).cell (touched cpu CpuChange.Fail m)) (sym (scan-none m h z)) ∙ by-fault cpu m h.size))
+  module _ (inside : own-cell < max_cells) (both : Bool) (is : both ≡ (not (eqb own-cell root_id) && others)) where
+    by-final : (final : Bool) → final ≡ is_final (state_at m own-cell) → (both && not final) ≡ cell_fails cpu m
+    unfolding cell_fails
+    by-final final f =
+        ap₂ (λ (x y : Bool). x && not y) is f
+        ∙ known (not (eqb own-cell root_id)) others (not (is_final (state_at m own-cell)))
+        ∙ sym (ap (λ (b : Bool). not (eqb own-cell root_id) && b && others && not (is_final (state_at m own-cell))) (lt-ltb own-cell max_cells inside))
+      where
+        known : (a b c : Bool) → ((a && b) && c) ≡ (a && true && b && c)
+        known true b c = refl
+        known false b c = refl
 
-  pub fails-cell : (place : ℕ) → Index (cell_index p.cell) max_cells place → (of_z w32 scan ≡ 0 → ⊥) → (new : CellConfig)
-      → Settles (Faulty scan p waiting cpu) new (λ m. answered Done (faulted cpu m))
-      (record {
-        cpu = cpu;
-        touch = CpuChange.Fail;
-        cut = 16;
-        moves = record { answer = Done; effect = NoEffect; cell = place; words = Store 2 failed; waiting = waiting };
-      })
+    pub all-failed : both ≡ true → (final : Bool) → final ≡ is_final (state_at m own-cell) → not final ≡ cell_fails cpu m
+    all-failed t final f = sym (ap (λ (b : Bool). b && not final) t) ∙ by-final final f
+
+    pub one-works : both ≡ false → both ≡ cell_fails cpu m
+    one-works t = t ∙ sym (ap (λ (b : Bool). b && not (is_final (state_at m own-cell))) t) ∙ by-final _ refl
+
+module _ (m : Machine) (new : CellConfig) (cpu : ℕ) (inside : cpu < max_cpus) (size : length m.comms ≡ max_cells) where
+  pub faults : (mv : Move) → cell_fails cpu m ≡ false → Moves (λ x. x.waiting ≡ m.waiting) (λ new x. answered Done x) mv
+      → Settles m new (answered Done (faulted cpu m)) (record { cpu = cpu; touch = CpuChange.Fail; cut = None; moves = mv })
+  faults mv z r =
+      settles-as (only-cpu m new cpu CpuChange.Fail Done mv inside r)
+      (ap (answered Done) (ap (by-test (cpu_at m cpu).cell (touched cpu CpuChange.Fail m)) (sym z) ∙ by-fault cpu m size))
+
+  pub fails-cell : cell_fails cpu m ≡ true
+      → Settles m new (answered Done (faulted cpu m))
+      (record { cpu = cpu; touch = CpuChange.Fail; cut = None; moves = store_at m new (cpu_at m cpu).cell 2 failed })
   unfolding settled cut_off_at words_at words_of store_word touched with_cpus
-  fails-cell place i n new = record {
-    settles = λ m h. let fails = scan-some m h n in
-        ap (λ (k : ℕ). moved (record { answer = Done; effect = NoEffect; cell = k; words = Store 2 failed; waiting = waiting }) new (touched cpu CpuChange.Fail m))
-        (i.is ∙ ap cell_index (ap (λ (x : Cpu). x.cell) (sym h.own)) ∙ cell-inside (cpu_at m cpu).cell (fails-inside cpu m fails))
-        ∙ stored_at waiting new (touched cpu CpuChange.Fail m) h.waits (cpu_at m cpu).cell 2 failed
-        ∙ ap (answered Done) (ap (by-test (cpu_at m cpu).cell (touched cpu CpuChange.Fail m)) (sym fails) ∙ by-fault cpu m h.size);
+  fails-cell t = record {
+    settles = stored_at m new CpuChange.Fail cpu (cpu_at m cpu).cell 2 failed
+        ∙ ap (answered Done) (ap (by-test (cpu_at m cpu).cell (touched cpu CpuChange.Fail m)) (sym t) ∙ by-fault cpu m size);
     cpu = inside;
-    cell = i.inside;
+    cell = fails-inside cpu m t;
   }

@@ -1,6 +1,6 @@
 -- The rules' effects, part by part: what stands in each part of the machine after the effect of a call on one cell. `Laws.stored-is-effect`
--- says that these parts, stored at the cell's place, make the rule's machine.
-use Rattle.std.specs.Prelude.{ℕ, ◌+◌, ◌-◌, ◌%◌, ◌^◌, Bool, true, false, List, nat_lt, slice_set}
+-- says that these parts, stored at the cell, make the rule's machine.
+use Rattle.std.specs.Prelude.{ℕ, ◌+◌, ◌-◌, ◌%◌, ◌^◌, Bool, true, false, List, slice_set}
 use Rattle.base.specs.Lists.{any}
 use Rattle.cpu_set.specs.CpuSet.{union, without}
 use Rattle.regions.specs.Regions.{comm}
@@ -13,103 +13,83 @@ use Rattle.machine_state.specs.declared.Cell.{Cell}
 use Rattle.machine_state.specs.declared.CallKind.{CallKind}
 use Rattle.machine_state.specs.declared.CallKind.TheVariants.{Disable, Create, Start, SetLoadable, Destroy}
 use Rattle.machine_state.specs.declared.Machine.{Machine}
-use Rattle.machine_state.specs.Machine.{no_comm, no_cell, max_cells}
+use Rattle.machine_state.specs.Machine.{no_comm, no_cell}
 use Rattle.rules.specs.State.{root_id, shut_down}
 use Rattle.rules.specs.Effects.{add_id, drop_id, pool_cost, new_cell, with_phase, with_state, clear_words, change_cpus}
 use Rattle.cpu_table.specs.declared.CpuChange.TheVariants as Change
 use Rattle.cpu_table.specs.CpuTable.{change_of}
 use Rattle.effects.specs.declared.Figures.{Figures}
-use Rattle.effects.specs.declared.Target.{Target}
 use Rattle.effects.specs.declared.Numbers.{Numbers}
-use Rattle.effects.specs.declared.CellChange.{CellChange}
-use Rattle.effects.specs.declared.CellChange.TheVariants as CellChange
 
-unfoldable pub is_disable : CallKind → Bool
+abbrev pub is_disable : CallKind → Bool
 is_disable Disable = true
 is_disable Create = false
 is_disable Start = false
 is_disable SetLoadable = false
 is_disable Destroy = false
 
--- one of two things, by whether the tables have a cell
-unfoldable pub within : {A : Type 0} → ℕ → A → A → A
-within id x y = elim (nat_lt id max_cells) [ true ↦ x | false ↦ y ]
-
 -- what a record says that Create's effect needs beside the cell itself
-unfoldable pub figures_of : CellConfig → Figures
+abbrev pub figures_of : CellConfig → Figures
 figures_of new = record { cpus = new.cpus; region_count = new.region_count; mapped = any comm (cell_regions new); passive = new.passive; reply_limit = new.reply_limit }
 
--- what a cell holds, at whose place one with these CPUs and regions stands
-unfoldable pub target_of : ℕ → ℕ → ℕ → Target
-target_of id cpus regions = within id (record { cpus = cpus; region_count = regions }) (record { cpus = 0; region_count = 0 })
-
--- the pool, the live IDs, root's CPUs, and what is done to which CPUs. `t` is what the cell holds, `new` are the record's figures
-unfoldable pub numbers_after : CallKind → ℕ → Target → Figures → ℕ → ℕ → ℕ → Numbers
-numbers_after Disable id t new pool ids root = record {
+-- the pool, the live IDs, root's CPUs, and what is done to which CPUs. `c` is the cell, `new` are the record's figures
+abbrev pub numbers_after : CallKind → ℕ → Cell → Figures → ℕ → ℕ → ℕ → Numbers
+numbers_after Disable id c new pool ids root = record {
   pool_used = pool;
   live_ids = ids;
   root_cpus = root;
   cpus = 0;
   how = Change.Keep;
 }
-numbers_after Create id t new pool ids root = record {
+numbers_after Create id c new pool ids root = record {
   pool_used = (pool + pool_cost new.region_count) % 2 ^ 32;
   live_ids = add_id id ids;
   root_cpus = without root new.cpus;
   cpus = new.cpus;
   how = Change.Give id true;
 }
-numbers_after Start id t new pool ids root = record {
+numbers_after Start id c new pool ids root = record {
   pool_used = pool;
   live_ids = ids;
   root_cpus = root;
-  cpus = t.cpus;
+  cpus = c.cpus;
   how = Change.Start;
 }
-numbers_after SetLoadable id t new pool ids root = record {
+numbers_after SetLoadable id c new pool ids root = record {
   pool_used = pool;
   live_ids = ids;
   root_cpus = root;
-  cpus = t.cpus;
+  cpus = c.cpus;
   how = Change.Stop;
 }
-numbers_after Destroy id t new pool ids root = record {
-  pool_used = pool - pool_cost t.region_count;
+numbers_after Destroy id c new pool ids root = record {
+  pool_used = pool - pool_cost c.region_count;
   live_ids = drop_id id ids;
-  root_cpus = union root t.cpus;
-  cpus = t.cpus;
+  root_cpus = union root c.cpus;
+  cpus = c.cpus;
   how = Change.Give root_id false;
 }
 
--- what is done to the cell's place
-unfoldable pub kind_change : CallKind → CellChange
-kind_change Disable = CellChange.Keep
-kind_change Create = CellChange.New
-kind_change Start = CellChange.Phase Phase.Started
-kind_change SetLoadable = CellChange.Phase Phase.Loading
-kind_change Destroy = CellChange.Empty
-
-unfoldable pub cell_change : CallKind → ℕ → CellChange
-cell_change kind id = within id (kind_change kind) CellChange.Keep
-
-unfoldable pub changed_cell : CellChange → CellConfig → Cell → Cell
-changed_cell CellChange.Keep new c = c
-changed_cell CellChange.New new c = new_cell new
-changed_cell (CellChange.Phase phase) new c = with_phase phase c
-changed_cell CellChange.Empty new c = no_cell
+-- the cell
+abbrev pub changed_cell : CallKind → CellConfig → Cell → Cell
+changed_cell Disable new c = c
+changed_cell Create new c = new_cell new
+changed_cell Start new c = with_phase Phase.Started c
+changed_cell SetLoadable new c = with_phase Phase.Loading c
+changed_cell Destroy new c = no_cell
 
 -- the words
-unfoldable pub new_words : Figures → CommRegion
+abbrev pub new_words : Figures → CommRegion
 new_words new = record { mapped = new.mapped; passive = new.passive; reply_limit = new.reply_limit; msg_to_cell = 0; reply_from_cell = 0; cell_state = shut_down }
 
-unfoldable pub words_after : CallKind → Figures → CommRegion → CommRegion
+abbrev pub words_after : CallKind → Figures → CommRegion → CommRegion
 words_after Disable new w = w
 words_after Create new w = new_words new
 words_after Start new w = clear_words w
 words_after SetLoadable new w = with_state shut_down w
 words_after Destroy new w = no_comm
 
--- the machine with these numbers and CPUs, and with the cell and the words stored at a place
+-- the machine with these numbers and CPUs, and with the cell and the words stored at a place; past the tables' end nothing is
 unfoldable pub parts_stored : Numbers → ℕ → Cell → CommRegion → List Cpu → Machine → Machine
 parts_stored n place c w cpus m = record {
   power = m.power;

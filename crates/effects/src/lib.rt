@@ -1,18 +1,17 @@
-// What the effect of a call makes of the machine's parts. Each part is stored in its place by
-// `apply`, for the entry of one event, and by the loop over a log.
+// What the effect of a call makes of the machine's parts. `apply` stores each part in its place.
 #![tactic(auto)]
 
-ghost use Rattle.std.specs.Prelude.{◌≡◌, ◌+◌, ◌-◌, ◌%◌, ◌^◌};
+ghost use Rattle.std.specs.Prelude.{◌≡◌, ◌+◌, ◌-◌, ◌%◌, ◌^◌, Some};
 ghost use Rattle.cell_record.specs.CellRecord.{cell_of};
-ghost use Rattle.rules.specs.Effects.{pool_cost, new_cell, with_phase, clear_words, with_state};
-ghost use Rattle.effects.specs.Applying.{rest_of, EffectPart, IsNext, TableSizes};
-ghost use Rattle.effects.specs.Parts.{is_disable, figures_of, target_of, numbers_after, within, kind_change, cell_change, new_words, words_after};
+ghost use Rattle.rules.specs.State.{cell_at};
+ghost use Rattle.rules.specs.Effects.{pool_cost, new_cell, clear_words};
+ghost use Rattle.effects.specs.Applying.{rest_of, EffectPart, IsNext};
+ghost use Rattle.effects.specs.Parts.{is_disable, figures_of, numbers_after, new_words, words_after};
 
 use asking::Effect;
+use comms::WordsChange;
 use cpu_table::CpuChange;
-use machine_state::{
-    CallKind, Cell, CommRegion, Cpu, FAILED, MAX_CELLS, MAX_CPUS, Phase, SHUT_DOWN,
-};
+use machine_state::{CallKind, Cell, CommRegion, MAX_CELLS, Machine, Phase, SHUT_DOWN, STATE_WORD};
 
 // What a record says that Create's effect needs beside the cell itself.
 #[derive(Clone, Copy)]
@@ -24,14 +23,8 @@ pub struct Figures {
     pub reply_limit: u16,
 }
 
-// What a cell that an effect is about holds; a number that is no cell's holds nothing.
-#[derive(Clone, Copy)]
-struct Target {
-    cpus: u64,
-    region_count: usize,
-}
-
-// What an effect makes of the machine's numbers, and what it does to a set of CPUs.
+// What an effect makes of the machine's numbers, and what it does to a set of CPUs. For none the set is
+// empty: the law `cell-applied` takes `cpus` and `how` as what is left to be changed.
 #[derive(Clone, Copy)]
 pub struct Numbers {
     pub pool_used: u32,
@@ -41,53 +34,25 @@ pub struct Numbers {
     pub how: CpuChange,
 }
 
-// What an effect does to its cell's place in the table: nothing, the record's new cell, another
-// phase, or no cell.
-#[derive(Clone, Copy)]
-pub enum CellChange {
-    Keep,
-    New,
-    Phase(Phase),
-    Empty,
-}
-
 // What is applied next of a decision: a CPU of a set that is being changed, a cell that is cut off, a
-// change of one cell, the machine switched off, or nothing more.
+// change of one cell, or the machine switched off.
 #[derive(Clone, Copy)]
 pub enum Part {
     Cpu(usize),
     CutOff(usize),
     Change(CallKind, usize),
     Off,
-    Nothing,
-}
-
-// How long a machine's tables are: what a shell that keeps the machine in its parts knows of them.
-// Does nothing else.
-pub fn table_sizes(
-    cells: [Cell; MAX_CELLS],
-    comms: [CommRegion; MAX_CELLS],
-    cpus: [Cpu; MAX_CPUS],
-) -> bool
-    ensures { TableSizes cells comms cpus }
-{
-    true
 }
 
 // Whether the effect is Disable's, which is about every cell.
 pub fn is_disable(kind: CallKind) -> bool
     ensures { result ≡ is_disable kind }
 {
-    match kind {
-        CallKind::Disable => true,
-        CallKind::Create => false,
-        CallKind::Start => false,
-        CallKind::SetLoadable => false,
-        CallKind::Destroy => false,
-    }
+    kind == CallKind::Disable
 }
 
 // The figures of a record.
+#[tactic(auto, unfolding(cell_record::specs::CellRecord::cell_of))]
 pub fn figures_of(record: &[u8]) -> Figures
     ensures { result ≡ figures_of (cell_of «record».now) }
 {
@@ -100,122 +65,75 @@ pub fn figures_of(record: &[u8]) -> Figures
     }
 }
 
-// What cell `id` holds, at whose place a cell with these CPUs and regions stands.
-fn target_of(id: usize, cpus: u64, region_count: usize) -> Target
-    ensures { result ≡ target_of id cpus region_count }
-{
-    if id < MAX_CELLS {
-        return Target { cpus, region_count };
-    }
-    Target {
-        cpus: 0,
-        region_count: 0,
-    }
-}
-
 // The pool with the pages of one more cell; a sum past the end goes round.
 fn pool_grown(pool_used: u32, regions: usize) -> u32
     ensures { result ≡ (pool_used + pool_cost regions) % 2 ^ 32 }
 {
-    let wanted = std::num::wrapping_add_u32((regions % 0x1_0000_0000) as u32, 2);
-    std::num::wrapping_add_u32(pool_used, wanted)
+    pool_used
+        .wrapping_add((regions % 0x1_0000_0000) as u32)
+        .wrapping_add(2)
 }
 
 // The pool without the pages of a cell; none where more are given back than there are.
 fn pool_given_back(pool_used: u32, regions: usize) -> u32
     ensures { result ≡ pool_used - pool_cost regions }
 {
-    let used = pool_used as usize;
-    if used < 2 {
-        return 0;
-    }
-    if used - 2 < regions {
-        return 0;
-    }
-    (used - 2 - regions) as u32
+    (pool_used as usize)
+        .saturating_sub(2)
+        .saturating_sub(regions) as u32
 }
 
-// The numbers after an effect on cell `id`, at whose place a cell with these CPUs and regions
-// stands; of Create, `new` are the record's figures.
-pub fn numbers_after(
-    kind: CallKind,
-    id: usize,
-    cpus: u64,
-    region_count: usize,
-    new: Figures,
-    pool_used: u32,
-    live_ids: u16,
-    root_cpus: u64,
-) -> Numbers
-    ensures { result ≡ numbers_after kind id (target_of id cpus region_count) new pool_used live_ids root_cpus }
+// The numbers after an effect on cell `id`; of Create, `new` are the record's figures.
+pub fn numbers_after(kind: CallKind, id: usize, new: Figures, m: &Machine) -> Numbers
+    ensures { result ≡ numbers_after kind id (cell_at m.now id) new m.now.pool_used m.now.live_ids m.now.root_cpus }
 {
-    let target = target_of(id, cpus, region_count);
+    let (cpus, regions) = match m.cells.get(id) {
+        Some(c) => (c.cpus, c.region_count),
+        None => (0, 0),
+    };
+    let unchanged = Numbers {
+        pool_used: m.pool_used,
+        live_ids: m.live_ids,
+        root_cpus: m.root_cpus,
+        cpus: 0,
+        how: CpuChange::Keep,
+    };
     match kind {
-        CallKind::Disable => Numbers {
-            pool_used,
-            live_ids,
-            root_cpus,
-            cpus: 0,
-            how: CpuChange::Keep,
-        },
+        CallKind::Disable => unchanged,
         CallKind::Create => Numbers {
-            pool_used: pool_grown(pool_used, new.region_count),
-            live_ids: id_set::add_id(live_ids, id),
-            root_cpus: cpu_set::without(root_cpus, new.cpus),
+            pool_used: pool_grown(m.pool_used, new.region_count),
+            live_ids: id_set::add_id(m.live_ids, id),
+            root_cpus: cpu_set::without(m.root_cpus, new.cpus),
             cpus: new.cpus,
             how: CpuChange::Give(id, true),
         },
         CallKind::Start => Numbers {
-            pool_used,
-            live_ids,
-            root_cpus,
-            cpus: target.cpus,
+            cpus,
             how: CpuChange::Start,
+            ..unchanged
         },
         CallKind::SetLoadable => Numbers {
-            pool_used,
-            live_ids,
-            root_cpus,
-            cpus: target.cpus,
+            cpus,
             how: CpuChange::Stop,
+            ..unchanged
         },
         CallKind::Destroy => Numbers {
-            pool_used: pool_given_back(pool_used, target.region_count),
-            live_ids: id_set::drop_id(live_ids, id),
-            root_cpus: cpu_set::union(root_cpus, target.cpus),
-            cpus: target.cpus,
+            pool_used: pool_given_back(m.pool_used, regions),
+            live_ids: id_set::drop_id(m.live_ids, id),
+            root_cpus: cpu_set::union(m.root_cpus, cpus),
+            cpus,
             how: CpuChange::Give(0, false),
         },
     }
 }
 
-// What an effect does to the place of cell `id`.
-fn kind_change(kind: CallKind) -> CellChange
-    ensures { result ≡ kind_change kind }
-{
-    match kind {
-        CallKind::Disable => CellChange::Keep,
-        CallKind::Create => CellChange::New,
-        CallKind::Start => CellChange::Phase(Phase::Started),
-        CallKind::SetLoadable => CellChange::Phase(Phase::Loading),
-        CallKind::Destroy => CellChange::Empty,
-    }
-}
-
-pub fn cell_change(kind: CallKind, id: usize) -> CellChange
-    ensures { result ≡ cell_change kind id }
-{
-    if id < MAX_CELLS {
-        return kind_change(kind);
-    }
-    CellChange::Keep
-}
-
 // A created cell.
+#[tactic(auto, unfolding(rules::specs::Effects::new_cell))]
 pub fn new_cell(record: &[u8]) -> Cell
     ensures { result ≡ new_cell (cell_of «record».now) }
 {
     let new = cell_record::cell_of(record);
+    // An array of a struct goes into another struct by way of a local.
     let name = new.name;
     let regions = new.regions;
     Cell {
@@ -223,21 +141,6 @@ pub fn new_cell(record: &[u8]) -> Cell
         name,
         cpus: new.cpus,
         region_count: new.region_count,
-        regions,
-    }
-}
-
-// A cell in another phase.
-pub fn with_phase(phase: Phase, c: Cell) -> Cell
-    ensures { result ≡ with_phase phase c }
-{
-    let name = c.name;
-    let regions = c.regions;
-    Cell {
-        phase,
-        name,
-        cpus: c.cpus,
-        region_count: c.region_count,
         regions,
     }
 }
@@ -257,71 +160,38 @@ fn new_comm(new: Figures) -> CommRegion
 }
 
 // The words of a cell that starts.
+#[tactic(auto, unfolding(rules::specs::Effects::clear_words))]
 fn clear_words(w: CommRegion) -> CommRegion
     ensures { result ≡ clear_words w }
 {
-    let mut next = w;
-    next.msg_to_cell = 0;
-    next.reply_from_cell = 0;
-    next.cell_state = 0;
-    next
-}
-
-// The words of a cell that is set loadable.
-fn loadable_words(w: CommRegion) -> CommRegion
-    ensures { result ≡ with_state 2 w }
-{
-    let mut next = w;
-    next.cell_state = SHUT_DOWN;
-    next
+    CommRegion {
+        msg_to_cell: 0,
+        reply_from_cell: 0,
+        cell_state: 0,
+        ..w
+    }
 }
 
 // The words of a cell after an effect on it.
-fn changed_words(kind: CallKind, new: Figures, w: CommRegion) -> CommRegion
+#[tactic(auto, unfolding(comms::specs::Comms::words_of, rules::specs::Effects::store_word))]
+pub fn words_after(kind: CallKind, new: Figures, w: CommRegion) -> CommRegion
     ensures { result ≡ words_after kind new w }
 {
     match kind {
         CallKind::Disable => w,
         CallKind::Create => new_comm(new),
         CallKind::Start => clear_words(w),
-        CallKind::SetLoadable => loadable_words(w),
+        CallKind::SetLoadable => comms::change_words(w, WordsChange::Store(STATE_WORD, SHUT_DOWN)),
         CallKind::Destroy => machine_state::no_comm(),
     }
 }
 
-// What is stored at the place of cell `id`'s words, where `w` stands.
-pub fn words_after(kind: CallKind, id: usize, new: Figures, w: CommRegion) -> CommRegion
-    ensures { result ≡ within id (words_after kind new w) w }
-{
-    if id < MAX_CELLS {
-        changed_words(kind, new, w)
-    } else {
-        w
-    }
-}
-
-// The words of a cell that its reply limit cuts off.
-pub fn failed_words(w: CommRegion) -> CommRegion
-    ensures { result ≡ with_state 3 w }
-{
-    let mut next = w;
-    next.cell_state = FAILED;
-    next
-}
-
 // What is left of an effect after a change of one cell: Disable comes back until it has switched off.
+// No crate calls it: the laws that docs/CLAIMS.md names for "every effect, part by part" are about it.
 pub fn rest_of(effect: Effect) -> Effect
     ensures { result ≡ rest_of effect }
 {
-    match effect {
-        Effect::NoEffect => Effect::NoEffect,
-        Effect::Comes(kind, id) => {
-            if is_disable(kind) {
-                return Effect::Comes(kind, id);
-            }
-            Effect::NoEffect
-        }
-    }
+    effect.filter(|(kind, _)| is_disable(*kind))
 }
 
 // The next part of an effect on cell `id`: Disable destroys the lowest live cell while there is one.
@@ -329,28 +199,28 @@ fn effect_part(kind: CallKind, id: usize, live_ids: u16) -> Part
     ensures { EffectPart kind id live_ids result }
 {
     if is_disable(kind) {
-        let next = id_set::lowest(id_set::drop_id(live_ids, 0));
-        if next < MAX_CELLS {
-            return Part::Change(CallKind::Destroy, next);
-        }
-        return Part::Off;
+        return match id_set::lowest(id_set::drop_id(live_ids, 0)) {
+            Some(next) => Part::Change(CallKind::Destroy, next),
+            None => Part::Off,
+        };
     }
     Part::Change(kind, id)
 }
 
 // The part that comes next, with `cpus` the CPUs that are still to be changed, `cut` the cell that is
-// still to be cut off, from `MAX_CELLS` up for none, and `effect` what is still to come.
-pub fn next_part(cpus: u64, cut: usize, effect: Effect, live_ids: u16) -> Part
+// still to be cut off, and `effect` what is still to come. No crate calls it: docs/CLAIMS.md promises
+// "every effect, part by part" by it, and by the laws `lowest-cell`, `none_left` and `cpu-applied` to `all-applied`.
+pub fn next_part(cpus: u64, cut: Option<usize>, effect: Effect, live_ids: u16) -> Option<Part>
     ensures { IsNext cpus cut effect live_ids result }
 {
-    if cpus != 0 {
-        return Part::Cpu(cpu_table::first_cpu(cpus));
+    if let Some(k) = cpu_table::first_cpu(cpus) {
+        return Some(Part::Cpu(k));
     }
-    if cut < MAX_CELLS {
-        return Part::CutOff(cut);
+    if let Some(cell) = cut {
+        if cell < MAX_CELLS {
+            return Some(Part::CutOff(cell));
+        }
     }
-    match effect {
-        Effect::NoEffect => Part::Nothing,
-        Effect::Comes(kind, id) => effect_part(kind, id, live_ids),
-    }
+    let (kind, id) = effect?;
+    Some(effect_part(kind, id, live_ids))
 }

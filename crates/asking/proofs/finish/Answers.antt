@@ -4,7 +4,7 @@ use mir.Syntax.{w32}
 use mir.Facts.{to_z-of_z}
 use lib.IntN.{ℤ}
 use Rattle.machine_state.specs.declared.Answer.TheVariants.{Code}
-use Rattle.machine_state.specs.declared.Waiting.TheVariants.{NoCall}
+use Rattle.std.specs.Prelude.{None}
 use Rattle.rules.specs.State.{with_waiting, answered}
 use Rattle.rules.specs.Asking.{finished}
 use Rattle.asking.specs.Moves.{effect_of}
@@ -15,4 +15,4 @@ pub returns : goal.returns
 unfolding finished
 returns c =
     moves-as c.keep_words.ensures (λ m h. tt)
-    (λ m new h. ap (λ (z : ℤ). answered (Code z) (with_waiting NoCall (effect_of c.args.effect new m))) (to_z-of_z {w = w32} {z = c.args.code} c.ranges.code))
+    (λ m new h. ap (λ (z : ℤ). answered (Code z) (with_waiting None (effect_of c.args.effect new m))) (to_z-of_z {w = w32} {z = c.args.code} c.ranges.code))

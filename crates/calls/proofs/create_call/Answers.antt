@@ -1,25 +1,14 @@
--- `calls::create_call` meets its contract: the scan's code is that of the first row that applies, or 0. Assumes nothing.
-use mathlib.Core.Path.{ap, ◌∙◌}
-use lib.IntN.{ℤ}
-use mir.Syntax.{w32}
-use mir.Facts.{to_z-of_z}
-use Rattle.rules.specs.Calls.{ends}
-use Rattle.calls.proofs.Calls.{create-refused, create-asks}
+-- `calls::create_call` meets its contract: what refuses it is the first row that applies. Assumes nothing.
+use Rattle.calls.proofs.Calls.{calls_by, same-waiting, with-sets, create-refused, create-asks}
 use Rattle.calls.proofs.create_call.Goals as goal
 
-pub returns-then-scan-eq0 : goal.returns-then-scan-eq0
-returns-then-scan-eq0 c caller bytes =
-    record {
-      moves = λ m h. c.ask.ensures.moves m _ h.0.parts
-          ∙ create-asks caller bytes m _ h.1 _ (c.free_id-id.ensures m h.0.ids) c.if-scan-eq0.true;
-      place = c.ask.ensures.place;
-    }
+pub returns-in-Ok : goal.returns-in-Ok
+returns-in-Ok c =
+    let m = c.args.m.now in
+    calls_by m _ _ c.ask.ensures (with-sets m _ _ c.cell_sets.ensures.sets c.cell_sets.ensures.size)
+    (create-asks _ _ m _ c.refusal.ensures.code _ (c.refusal.ensures.id _ c.in-Ok.is) c.in-Ok.is)
 
-pub returns : goal.returns
-returns c caller bytes =
-    record {
-      moves = λ m h. c.stay.ensures.moves m _ h.0.waits
-          ∙ ap (λ (z : ℤ). ends z m) (to_z-of_z {w = w32} {z = c.args.scan} c.ranges.scan)
-          ∙ create-refused caller bytes m _ h.1 c.if-scan-eq0.false;
-      place = c.stay.ensures.place;
-    }
+pub returns-in-Err : goal.returns-in-Err
+returns-in-Err c =
+    let m = c.args.m.now in
+    calls_by m _ _ c.refused.ensures (same-waiting m _) (create-refused _ _ m _ c.refusal.ensures.code _ c.in-Err.is)

@@ -5,17 +5,17 @@ use Rattle.effects.specs.Applying.{EffectPart}
 use Rattle.effects.proofs.Applying.{own-cell, lowest-cell, none_left}
 use Rattle.effects.proofs.effect_part.Goals as goal
 
-pub returns-then-next-lt-MAX_CELLS : goal.returns-then-next-lt-MAX_CELLS
+pub returns-in-Some : goal.returns-in-Some
 unfolding EffectPart
-returns-then-next-lt-MAX_CELLS c =
+returns-in-Some c =
     lowest-cell _ _ _ _ (sym c.is_disable.ensures ∙ c.if-is_disable.true)
-    (subst (λ (n : ℕ). Lowest n c.lowest-next.result) c.drop_id.ensures c.lowest-next.ensures) c.if-next-lt-MAX_CELLS.true
+    (subst (λ (n : ℕ). Lowest n c.lowest.result) c.drop_id.ensures c.lowest.ensures) _ c.in-Some.is
 
-pub returns-then-is_disable : goal.returns-then-is_disable
+pub returns-in-None : goal.returns-in-None
 unfolding EffectPart
-returns-then-is_disable c =
+returns-in-None c =
     none_left _ _ _ _ (sym c.is_disable.ensures ∙ c.if-is_disable.true)
-    (subst (λ (n : ℕ). Lowest n c.lowest-next.result) c.drop_id.ensures c.lowest-next.ensures) c.if-next-lt-MAX_CELLS.false
+    (subst (λ (n : ℕ). Lowest n c.lowest.result) c.drop_id.ensures c.lowest.ensures) c.in-None.is
 
 pub returns : goal.returns
 unfolding EffectPart

@@ -1,18 +1,17 @@
 -- `polling::poll` meets its contract: by whether a call waits. Assumes nothing.
-use mathlib.Core.Path.{sym, ap, ◌∙◌}
-use Rattle.machine_state.specs.declared.Waiting.{Waiting}
+use mathlib.Core.Path.{refl, sym, ap}
+use Rattle.machine_state.specs.Machine.{Waiting}
 use Rattle.rules.specs.Asking.{poll}
-use Rattle.asking.proofs.Laws.{moves-as}
-use Rattle.polling.proofs.Laws.{moves-uncut, poll-as}
+use Rattle.polling.proofs.Laws.{stays, poll-as}
 use Rattle.polling.proofs.poll.Goals as goal
 
-pub returns-in-NoCall : goal.returns-in-NoCall
-unfolding poll
-returns-in-NoCall c = moves-uncut (moves-as c.stay.ensures (λ m h. h.waits) (λ m new h. ap (λ (w : Waiting). poll w new m) (sym c.in-NoCall.is)))
+pub poll_cell-requires : goal.poll_cell-requires
+poll_cell-requires c = c.in-Some.is
 
-pub returns-in-Pending : goal.returns-in-Pending
+pub returns-in-None : goal.returns-in-None
 unfolding poll
-returns-in-Pending c =
-    let told = c.in-Pending.is in
-    poll-as c.poll_cell.ensures (λ m h. record { sets = rw told at h.sets; size = h.size; waits = h.waits ∙ told; words = rw told at h.words })
-    (λ m new h. ap (λ (w : Waiting). poll w new m) (sym told))
+returns-in-None c = stays c.args.m.now _ _ _ _ c.uncut.ensures c.stay.ensures refl (λ new. ap (λ (w : Waiting). poll w new c.args.m.now) (sym c.in-None.is))
+
+pub returns-in-Some : goal.returns-in-Some
+unfolding poll
+returns-in-Some c = poll-as c.args.m.now c.poll_cell.ensures (λ new. ap (λ (w : Waiting). poll w new c.args.m.now) (sym c.in-Some.is))

@@ -2,29 +2,29 @@
 use mathlib.Core.Path.{refl, sym, ap, ◌∙◌}
 use mathlib.Core.Bool.{not}
 use borrow.Author.Tests.{eq-eqb, ne_eqb}
-use Rattle.rules.specs.Queries.{cpu_get_info}
+use Rattle.rules.specs.Queries.{low31, cpu_get_info}
 use Rattle.queries.proofs.Laws.{answers, passes, none_left, between, foreign-row, works-row, counter-of}
 use Rattle.queries.proofs.cpu_figure.Goals as goal
 
 pub counter-requires : goal.counter-requires
 counter-requires c = between 1000 _ 1005 c.if-kind.true
 
-pub returns-then-caller-asked : goal.returns-then-caller-asked
+pub returns-then-cell-asked : goal.returns-then-cell-asked
 unfolding cpu_get_info
-returns-then-caller-asked c m k j p q b = passes _ _ _ _ (ap not b) (answers _ _ _ _ _ (foreign-row _ _ _ _ p q ∙ c.if-caller-asked.true) refl)
+returns-then-cell-asked c m k j p q b = passes _ _ _ _ (ap not b) (answers _ _ _ _ _ (foreign-row _ _ _ _ p q ∙ c.if-cell-asked.true) refl)
 
 pub returns-then-kind-asked : goal.returns-then-kind-asked
 unfolding cpu_get_info
 returns-then-kind-asked c m k j p q b =
     passes _ _ _ _ (ap not b)
-    (passes _ _ _ _ (foreign-row _ _ _ _ p q ∙ c.if-caller-asked.false)
+    (passes _ _ _ _ (foreign-row _ _ _ _ p q ∙ c.if-cell-asked.false)
     (answers _ _ _ _ _ (works-row c.args.kind _ _ q ∙ c.if-kind-asked.true) refl))
 
 pub returns-then-kind-eq0 : goal.returns-then-kind-eq0
 unfolding cpu_get_info
 returns-then-kind-eq0 c m k j p q b =
     passes _ _ _ _ (ap not b)
-    (passes _ _ _ _ (foreign-row _ _ _ _ p q ∙ c.if-caller-asked.false)
+    (passes _ _ _ _ (foreign-row _ _ _ _ p q ∙ c.if-cell-asked.false)
     (passes _ _ _ _ (works-row c.args.kind _ _ q ∙ c.if-kind-asked.false)
     (answers _ _ _ _ _ (eq-eqb _ _ c.if-kind-eq0.true) refl)))
 
@@ -32,16 +32,16 @@ pub returns-then-kind : goal.returns-then-kind
 unfolding cpu_get_info
 returns-then-kind c m k j p q b =
     passes _ _ _ _ (ap not b)
-    (passes _ _ _ _ (foreign-row _ _ _ _ p q ∙ c.if-caller-asked.false)
+    (passes _ _ _ _ (foreign-row _ _ _ _ p q ∙ c.if-cell-asked.false)
     (passes _ _ _ _ (works-row c.args.kind _ _ q ∙ c.if-kind-asked.false)
     (passes _ _ _ _ (ne_eqb _ _ c.if-kind-eq0.false)
-    (answers _ _ _ _ _ c.if-kind.true (c.counter.ensures ∙ counter-of _ _ _ (sym q))))))
+    (answers _ _ _ _ _ c.if-kind.true (ap low31 c.counter.ensures ∙ counter-of _ _ _ (sym q))))))
 
 pub returns : goal.returns
 unfolding cpu_get_info
 returns c m k j p q b =
     passes _ _ _ _ (ap not b)
-    (passes _ _ _ _ (foreign-row _ _ _ _ p q ∙ c.if-caller-asked.false)
+    (passes _ _ _ _ (foreign-row _ _ _ _ p q ∙ c.if-cell-asked.false)
     (passes _ _ _ _ (works-row c.args.kind _ _ q ∙ c.if-kind-asked.false)
     (passes _ _ _ _ (ne_eqb _ _ c.if-kind-eq0.false)
     (passes _ _ _ _ c.if-kind.false
