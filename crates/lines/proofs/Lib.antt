@@ -4,4 +4,3 @@ mod RecordLaws
 mod WordLaws
 mod NumberLaws
 mod PairLaws
-pub mod CutLaws

@@ -1,53 +1,74 @@
 -- Laws of numbers: the digits are read from the left, and what is no digit, or makes 2 ^ 64 or more, ends the reading for good.
 -- Assumes nothing.
-use mathlib.Core.Path.{◌≡◌, refl, sym, ap, ◌∙◌, subst}
+use mathlib.Core.Path.{◌≡◌, refl, sym, ap, ◌∙◌}
 use mathlib.Core.Bool.{Bool, true, false, ◌&&◌, and-false, and-true, false≢true}
-use mathlib.Core.Logic.{⊎_elim}
 use mathlib.Core.List.{List, [], ◌∷◌}
 use Prim.Native.Nat.{ℕ, suc, ◌+◌, ◌-◌, ◌*◌, ◌^◌, ◌<◌, ◌≤◌}
-use native.Mathlib.Nat.{le_trans, le_refl, lt_irrefl, lt_of_lt_of_le, le_of_suc-le-suc, not-suc-le-zero}
+use native.Mathlib.Nat.{le_trans, le_refl}
 use native.Mathlib.Numerals.{add-one}
 use native.Mathlib.Omega.{arith}
-use borrow.Author.Tests.{lt-ltb, le-ltb, le-leb, lt-leb, ltb-false}
-use lib.Dec.{T, ltb, eqb, ltb→lt}
+use borrow.Author.Tests.{lt-ltb, le-ltb, ltb-false, eqb-true}
+use lib.Dec.{ltb, eqb, ltb→lt}
 use lib.ListN.{length, get_or, drop, drop_of_length-le}
 use lib.Seq.{drop-cons}
 use Rattle.base.specs.Lists.{all}
-use Rattle.base.proofs.Tests.{le-or-lt, is_true, holds, and_left, and_right}
+use Rattle.base.proofs.Tests.{is_true, holds, and_left, and_right}
 use Rattle.lines.specs.Lines.{is_digit, value_from, value, is_decimal, is_number}
-use Rattle.lines.specs.Reading.{value_if, number_if, word_number, with_digit, with_digits}
-use Rattle.lines.specs.declared.numbers.Number.{Number}
+use Rattle.lines.specs.Reading.{number_if, word_number, with_digit, with_digits}
+use Rattle.std.specs.declared.option.Option.{Option}
+use Rattle.std.specs.Prelude.{Some, None, SomeIff, Result, Ok, Err}
+use Rattle.std.specs.Result.{OkIff, result_ok}
 
-abbrev pub none : Number
-none = record { ok = false; value = 0 }
-
-no_number : (ok : Bool) (n : ℕ) → ok ≡ false → none ≡ number_if ok n
+-- a number that is there, and none
+no_number : (ok : Bool) (n : ℕ) → ok ≡ false → None ≡ number_if ok n
 no_number ok n e = rw e
 
-some_number : (ok : Bool) (n : ℕ) → ok ≡ true → ◌≡◌ {A = Number} (record { ok = true; value = n }) (number_if ok n)
+some_number : (ok : Bool) (n : ℕ) → ok ≡ true → Some n ≡ number_if ok n
 some_number ok n e = rw e
+
+is-none : (ok : Bool) (n : ℕ) → None ≡ number_if ok n → ok ≡ false
+is-none true n e = cc
+is-none false n e = refl
+
+is-some : (ok : Bool) (n v : ℕ) → Some v ≡ number_if ok n → (ok ≡ true) × (v ≡ n)
+is-some true n v e = (refl, cc)
+is-some false n v e = cc
+
+pub not-number : (bits : ℕ) (w : List ℕ) → None ≡ word_number bits w → is_number bits w ≡ false
+unfolding word_number
+not-number bits w e = is-none (is_number bits w) (value w) e
+
+pub number-is : (bits : ℕ) (w : List ℕ) (v : ℕ) → Some v ≡ word_number bits w → is_number bits w ≡ true
+unfolding word_number
+number-is bits w v e = (is-some (is_number bits w) (value w) v e).0
+
+pub value-is : (bits : ℕ) (w : List ℕ) (v : ℕ) → Some v ≡ word_number bits w → v ≡ value w
+unfolding word_number
+value-is bits w v e = (is-some (is_number bits w) (value w) v e).1
 
 -- ---- one digit more
 
 abbrev next : ℕ → ℕ → ℕ
 next n b = 10 * n + (b - 0x30)
 
-pub below-digits : (n b : ℕ) → b < 0x30 → none ≡ with_digit n b
+pub no-digit : (n b : ℕ) → is_digit b ≡ false → None ≡ with_digit n b
 unfolding with_digit
-below-digits n b h = no_number _ _ (rw (lt-leb _ _ h))
+no-digit n b e = no_number _ _ (rw e)
 
-pub above-digits : (n b : ℕ) → 0x30 ≤ b → 0x39 < b → none ≡ with_digit n b
+pub too_large : (n b : ℕ) → is_digit b ≡ true → 2 ^ 64 ≤ next n b → None ≡ with_digit n b
 unfolding with_digit
-above-digits n b h k = no_number _ _ (rw (le-leb _ _ h, lt-leb _ _ k))
+too_large n b e l = no_number _ _ (rw (e, le-ltb _ _ l))
 
-pub too_large : (n b : ℕ) → 0x30 ≤ b → b ≤ 0x39 → 2 ^ 64 ≤ next n b → none ≡ with_digit n b
+pub one_more : (n b : ℕ) → is_digit b ≡ true → next n b < 2 ^ 64 → Some (next n b) ≡ with_digit n b
 unfolding with_digit
-too_large n b h k l = no_number _ _ (rw (le-leb _ _ h, le-leb _ _ k, le-ltb _ _ l))
+one_more n b e l = some_number _ _ (rw (e, lt-ltb _ _ l))
 
-pub one_more : (n b : ℕ) → 0x30 ≤ b → b ≤ 0x39 → next n b < 2 ^ 64
-    → ◌≡◌ {A = Number} (record { ok = true; value = next n b }) (with_digit n b)
-unfolding with_digit
-one_more n b h k l = some_number _ _ (rw (le-leb _ _ h, le-leb _ _ k, lt-ltb _ _ l))
+-- a digit that is added where the sum stays below 2 ^ 64
+pub added : (n b k d : ℕ) (r : Option ℕ) → is_digit b ≡ true → k ≡ n * 10 → d ≡ b - 0x30 → SomeIff r (k + d < 2 ^ 64) (k + d) → r ≡ with_digit n b
+added n b k d None e p q s = too_large n b e (omega arith)
+added n b k d (Some v) e p q s =
+    let sum : v ≡ next n b = omega (arith, s) in
+    ap Some sum ∙ one_more n b e (omega (arith, s))
 
 -- ---- the digits of a word
 
@@ -60,65 +81,52 @@ value_grows n (b ∷ bs) = le_trans h (value_grows (next n b) bs)
     h = omega arith
 
 digit-passed : (n b : ℕ) (bs : List ℕ) → is_digit b ≡ true → with_digits (next n b) bs ≡ with_digits n (b ∷ bs)
-unfolding with_digits all value_from
+unfolding with_digits value_from
 digit-passed n b bs e = rw e
 
-digit-refused : (n b : ℕ) (bs : List ℕ) (t : Bool) → is_digit b ≡ t → (t && ltb (next n b) (2 ^ 64)) ≡ false → none ≡ with_digits n (b ∷ bs)
-unfolding with_digits all value_from
+digit-refused : (n b : ℕ) (bs : List ℕ) (t : Bool) → is_digit b ≡ t → (t && ltb (next n b) (2 ^ 64)) ≡ false → None ≡ with_digits n (b ∷ bs)
+unfolding with_digits value_from
 digit-refused n b bs false e f = no_number _ _ (rw e)
 digit-refused n b bs true e f =
     no_number _ _
     (rw (le-ltb _ _ (le_trans (ltb-false (next n b) (2 ^ 64) f) (value_grows (next n b) bs))) (and-false (is_digit b && all is_digit bs)))
 
 -- one turn of the walk over the digits
-module _ (w : List ℕ) (n i : ℕ) (r : Number) (h : i < length w) (e : r ≡ with_digit n (get_or w i 0)) where
-  ok-is : r.ok ≡ (is_digit (get_or w i 0) && ltb (next n (get_or w i 0)) (2 ^ 64))
+module _ (w : List ℕ) (n i : ℕ) (h : i < length w) where
+  pub digits-stop : None ≡ with_digit n (get_or w i 0) → None ≡ with_digits n (drop i w)
   unfolding with_digit
-  ok-is = ap (λ (x : Number). x.ok) e
+  digits-stop e = rw (drop-cons w i 0 h) (digit-refused n (get_or w i 0) (drop (suc i) w) (is_digit (get_or w i 0)) refl (is-none _ _ e))
 
-  value-is : r.ok ≡ true → r.value ≡ next n (get_or w i 0)
+  pub digits-turn : (v : ℕ) → Some v ≡ with_digit n (get_or w i 0) → (v < 2 ^ 64) × (with_digits v (drop (i + 1) w) ≡ with_digits n (drop i w))
   unfolding with_digit
-  value-is f = ap (λ (x : Number). x.value) e ∙ ap (λ (t : Bool). value_if t (next n (get_or w i 0))) (sym ok-is ∙ f)
+  digits-turn v e =
+      let ok = is-some (is_digit (get_or w i 0) && ltb (next n (get_or w i 0)) (2 ^ 64)) (next n (get_or w i 0)) v e in (
+        rw ok.1 (ltb→lt _ _ (and_right (is_digit (get_or w i 0)) (ltb (next n (get_or w i 0)) (2 ^ 64)) (holds ok.0))),
+        rw (ok.1, add-one, drop-cons w i 0 h)
+            (digit-passed n (get_or w i 0) (drop (suc i) w) (is_true _ (and_left (is_digit (get_or w i 0)) (ltb (next n (get_or w i 0)) (2 ^ 64)) (holds ok.0)))),
+      )
 
-  both : r.ok ≡ true → T (is_digit (get_or w i 0) && ltb (next n (get_or w i 0)) (2 ^ 64))
-  both f = holds (sym ok-is ∙ f)
-
-  pub digits-stop : r.ok ≡ false → none ≡ with_digits n (drop i w)
-  digits-stop f = rw (drop-cons w i 0 h) (digit-refused n (get_or w i 0) (drop (suc i) w) (is_digit (get_or w i 0)) refl (sym ok-is ∙ f))
-
-  pub digits-turn : (whole : Number) → r.ok ≡ true → with_digits n (drop i w) ≡ whole
-      → (r.value < 2 ^ 64) × (with_digits r.value (drop (i + 1) w) ≡ whole)
-  digits-turn whole f q = (
-    rw (value-is f) (ltb→lt _ _ (and_right (is_digit (get_or w i 0)) (ltb (next n (get_or w i 0)) (2 ^ 64)) (both f))),
-    more ∙ q,
-  )
-    where
-      more : with_digits r.value (drop (i + 1) w) ≡ with_digits n (drop i w)
-      more =
-          rw (value-is f, add-one, drop-cons w i 0 h)
-          (digit-passed n (get_or w i 0) (drop (suc i) w) (is_true _ (and_left (is_digit (get_or w i 0)) (ltb (next n (get_or w i 0)) (2 ^ 64)) (both f))))
-
-pub digits-end : (w : List ℕ) (n i : ℕ) → length w ≤ i → n < 2 ^ 64 → ◌≡◌ {A = Number} (record { ok = true; value = n }) (with_digits n (drop i w))
-unfolding with_digits all value_from
+pub digits-end : (w : List ℕ) (n i : ℕ) → length w ≤ i → n < 2 ^ 64 → Some n ≡ with_digits n (drop i w)
+unfolding with_digits value_from
 digits-end w n i h l = rw (drop_of_length-le w h) (some_number _ _ (lt-ltb _ _ l))
 
 -- ---- a word
 
-pub no-digits : (bits : ℕ) (w : List ℕ) → length w < 1 → none ≡ word_number bits w
+pub no-digits : (bits : ℕ) (w : List ℕ) → eqb (length w) 0 ≡ true → None ≡ word_number bits w
 unfolding word_number is_number is_decimal
 no-digits bits [] h = refl
-no-digits bits (b ∷ bs) h = absurd (not-suc-le-zero (le_of_suc-le-suc h))
+no-digits bits (b ∷ bs) h = absurd (omega (arith, eqb-true (suc (length bs)) 0 h))
 
-pub zero-first : (bits : ℕ) (w : List ℕ) → (eqb (get_or w 0 0) 0x30 && ltb 1 (length w)) ≡ true → none ≡ word_number bits w
+pub zero-first : (bits : ℕ) (w : List ℕ) → (eqb (get_or w 0 0) 0x30 && ltb 1 (length w)) ≡ true → None ≡ word_number bits w
 unfolding word_number is_number is_decimal
 zero-first bits [] e = refl
 zero-first bits (b ∷ []) e = absurd (false≢true (sym (and-false (eqb b 0x30)) ∙ e))
 zero-first bits (b ∷ c ∷ bs) e =
     no_number _ _ (rw (is_true (eqb b 0x30) (and_left (eqb b 0x30) (ltb 1 (suc (suc (length bs)))) (holds e)), and-false (is_digit b)))
 
-pub all_digits : (w : List ℕ) → 1 ≤ length w → (eqb (get_or w 0 0) 0x30 && ltb 1 (length w)) ≡ false → with_digits 0 w ≡ word_number 64 w
-unfolding word_number is_number is_decimal with_digits all
-all_digits [] h e = absurd (not-suc-le-zero h)
+pub all_digits : (w : List ℕ) → eqb (length w) 0 ≡ false → (eqb (get_or w 0 0) 0x30 && ltb 1 (length w)) ≡ false → with_digits 0 w ≡ word_number 64 w
+unfolding word_number is_number is_decimal with_digits
+all_digits [] h e = absurd (false≢true (sym h))
 all_digits (b ∷ []) h e = rw (and-true (is_digit b))
 all_digits (b ∷ c ∷ bs) h e = rw (not-zero, and-true (is_digit b))
   where
@@ -127,33 +135,33 @@ all_digits (b ∷ c ∷ bs) h e = rw (not-zero, and-true (is_digit b))
 
 -- ---- a number of 64 bits as one of 32
 
-narrow : (d : Bool) (v : ℕ) → value_if (d && ltb v (2 ^ 64)) v < 2 ^ 32 → number_if (d && ltb v (2 ^ 64)) v ≡ number_if (d && ltb v (2 ^ 32)) v
-narrow false v h = refl
-narrow true v h = ⊎_elim large small (le-or-lt (2 ^ 32) v)
+pub wide : (w : List ℕ) → is_number 64 w ≡ false → is_number 32 w ≡ false
+unfolding is_number
+wide w e = by-test (is_decimal w) e
   where
-    small : v < 2 ^ 32 → number_if (ltb v (2 ^ 64)) v ≡ number_if (ltb v (2 ^ 32)) v
-    small k = rw (lt-ltb v (2 ^ 64) (omega arith), lt-ltb v (2 ^ 32) k)
+    by-test : (d : Bool) → (d && ltb (value w) (2 ^ 64)) ≡ false → (d && ltb (value w) (2 ^ 32)) ≡ false
+    by-test false f = refl
+    by-test true f = le-ltb (value w) (2 ^ 32) (omega (arith, ltb-false (value w) (2 ^ 64) f))
 
-    large : 2 ^ 32 ≤ v → number_if (ltb v (2 ^ 64)) v ≡ number_if (ltb v (2 ^ 32)) v
-    large k = ⊎_elim huge middle (le-or-lt (2 ^ 64) v)
-      where
-        huge : 2 ^ 64 ≤ v → number_if (ltb v (2 ^ 64)) v ≡ number_if (ltb v (2 ^ 32)) v
-        huge l = rw (le-ltb v (2 ^ 64) l, le-ltb v (2 ^ 32) k)
+pub none-32 : (w : List ℕ) → None ≡ word_number 64 w → None ≡ word_number 32 w
+unfolding word_number
+none-32 w e = no_number (is_number 32 w) (value w) (wide w (is-none (is_number 64 w) (value w) e))
 
-        middle : v < 2 ^ 64 → number_if (ltb v (2 ^ 64)) v ≡ number_if (ltb v (2 ^ 32)) v
-        middle l = let z : v < 2 ^ 32 = rw (lt-ltb v (2 ^ 64) l) at h in absurd (lt_irrefl v (lt_of_lt_of_le z k))
-
-wide : (d : Bool) (v : ℕ) → 2 ^ 32 ≤ value_if (d && ltb v (2 ^ 64)) v → none ≡ number_if (d && ltb v (2 ^ 32)) v
-wide false v h = refl
-wide true v h = ⊎_elim (λ k. no_number _ _ (le-ltb v (2 ^ 32) k)) small (le-or-lt (2 ^ 32) v)
-  where
-    small : v < 2 ^ 32 → none ≡ number_if (ltb v (2 ^ 32)) v
-    small k = let z : 2 ^ 32 ≤ v = rw (lt-ltb v (2 ^ 64) (omega arith)) at h in absurd (lt_irrefl v (lt_of_lt_of_le k z))
-
-pub number-32 : (w : List ℕ) (r : Number) → r ≡ word_number 64 w → r.value < 2 ^ 32 → r ≡ word_number 32 w
+pub large-32 : (w : List ℕ) (v : ℕ) → Some v ≡ word_number 64 w → 2 ^ 32 ≤ v → None ≡ word_number 32 w
 unfolding word_number is_number
-number-32 w r e h = e ∙ narrow (is_decimal w) (value w) (subst (λ (x : Number). x.value < 2 ^ 32) e h)
+large-32 w v e h =
+    let ok = is-some (is_number 64 w) (value w) v e in
+    no_number _ _ (rw (le-ltb (value w) (2 ^ 32) (rw ok.1 at h)) (and-false (is_decimal w)))
 
-pub no-number-32 : (w : List ℕ) (r : Number) → r ≡ word_number 64 w → 2 ^ 32 ≤ r.value → none ≡ word_number 32 w
+pub small-32 : (w : List ℕ) (v : ℕ) → Some v ≡ word_number 64 w → v < 2 ^ 32 → Some v ≡ word_number 32 w
 unfolding word_number is_number
-no-number-32 w r e h = wide (is_decimal w) (value w) (subst (λ (x : Number). 2 ^ 32 ≤ x.value) e h)
+small-32 w v e h =
+    let ok = is-some (is_number 64 w) (value w) v e in
+    let d : is_decimal w ≡ true = is_true (is_decimal w) (and_left (is_decimal w) (ltb (value w) (2 ^ 64)) (holds ok.0)) in
+    let l : ltb (value w) (2 ^ 32) ≡ true = lt-ltb (value w) (2 ^ 32) (rw ok.1 at h) in
+    rw (ok.1) (some_number (is_decimal w && ltb (value w) (2 ^ 32)) (value w) (rw (d, l)))
+
+-- what a narrowing of a number of 64 bits gives
+pub narrowed : {E : Type 0} (w : List ℕ) (v : ℕ) (r : Result ℕ E) → Some v ≡ word_number 64 w → OkIff r (v < 2 ^ 32) v → result_ok r ≡ word_number 32 w
+narrowed w v (Ok x) e s = ap Some s.1 ∙ small-32 w v e s.0
+narrowed w v (Err x) e s = large-32 w v e (omega (arith, s))

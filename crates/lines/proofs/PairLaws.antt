@@ -1,7 +1,7 @@
 -- Laws of pairs: they are pairs where their number is even and each is a digit, and the byte at a place is made of the two digits there.
 -- By induction, two digits at a time. Assumes nothing.
 use mathlib.Core.Path.{◌≡◌, refl, sym, ap, ◌∙◌}
-use mathlib.Core.Bool.{Bool, true, false, ◌&&◌, and-false}
+use mathlib.Core.Bool.{not, and-false, Bool, true, false, ◌&&◌}
 use mathlib.Core.Logic.{◌⊎◌, inl, inr, ⊎_elim}
 use mathlib.Core.List.{List, [], ◌∷◌, ◌++◌}
 use Prim.Native.Nat.{ℕ, zero, suc, ◌+◌, ◌-◌, ◌*◌, ◌/◌, ◌%◌, ◌<◌, ◌≤◌}
@@ -11,7 +11,6 @@ use native.Mathlib.Omega.{arith}
 use borrow.Author.Tests.{lt-leb, le-leb, eq-eqb, ne_eqb}
 use lib.Dec.{T, leb, eqb, leb→le}
 use lib.ListN.{length, take, drop, get_or, set}
-use lib.Seq.{take_all}
 use Rattle.base.specs.Lists.{all}
 use Rattle.base.proofs.Tests.{is_true, holds, and_left, and_right, or_cases}
 use Rattle.lines.specs.Lines.{is_digit, is_letter, is_hex_digit, hex_digit, is_pairs, is_hex, bytes_of}
@@ -24,7 +23,7 @@ turned false y true r = refl
 turned false y false r = refl
 
 pairs-all : (w : List ℕ) → is_pairs w ≡ (eqb (length w % 2) 0 && all is_hex_digit w)
-unfolding is_pairs all
+unfolding is_pairs
 pairs-all [] = refl
 pairs-all (a ∷ []) = refl
 pairs-all (a ∷ b ∷ bs) =
@@ -33,21 +32,16 @@ pairs-all (a ∷ b ∷ bs) =
     even : suc (suc (length bs)) % 2 ≡ length bs % 2
     even = omega arith
 
--- a word that is none, by its length
-pub no_pairs : (w : List ℕ) → length w < 1 → false ≡ is_hex w
-unfolding is_hex
-no_pairs w h = rw (lt-leb 1 (length w) h)
-
+-- the test of HEX: an even number of digits, and some
 pub odd-pairs : (w : List ℕ) → length w % 2 ≡ 1 → false ≡ is_hex w
 unfolding is_hex
 odd-pairs w h = rw (pairs-all w, ne_eqb (length w % 2) 0 (λ q. omega arith)) (sym (and-false (leb 1 (length w))))
 
-pub even-pairs : (w : List ℕ) (i : ℕ) (ok : Bool) → 1 ≤ length w → (length w % 2 ≡ 1 → ⊥) → length w ≤ i → ok ≡ all is_hex_digit (take i w)
-    → ok ≡ is_hex w
-unfolding is_hex
-even-pairs w i ok h k l e =
-    e ∙ ap (all is_hex_digit) (take_all i w l)
-    ∙ rw (le-leb 1 (length w) h, pairs-all w, eq-eqb (length w % 2) 0 (omega arith))
+pub even-pairs : (w : List ℕ) → (length w % 2 ≡ 1 → ⊥) → (not (eqb (length w) 0) && all is_hex_digit w) ≡ is_hex w
+unfolding is_hex is_pairs
+even-pairs [] h = refl
+even-pairs (a ∷ w) h =
+    rw (ne_eqb (suc (length w)) 0 (λ q. omega arith), le-leb 1 (suc (length w)) (omega arith), pairs-all (a ∷ w), eq-eqb (suc (length w) % 2) 0 (omega arith))
 
 -- a digit is one of 0 to 9 or one of a to f
 module _ (b : ℕ) (e : is_hex_digit b ≡ true) where
@@ -72,7 +66,6 @@ module _ (b : ℕ) (e : is_hex_digit b ≡ true) where
       letter = ⊎_elim (λ t. omega arith) (λ t. t) digit-cases
 
 all-at : (p : ℕ → Bool) (xs : List ℕ) (i : ℕ) → T (all p xs) → i < length xs → T (p (get_or xs i 0))
-unfolding all
 all-at p [] i t h = absurd (not-suc-le-zero h)
 all-at p (x ∷ xs) zero t h = and_left (p x) (all p xs) t
 all-at p (x ∷ xs) (suc i) t h = all-at p xs i (and_right (p x) (all p xs) t) (le_of_suc-le-suc h)

@@ -1,53 +1,54 @@
 -- Laws of words: a line is its first word, and behind the space the other words. By induction on the line. Assumes nothing.
-use mathlib.Core.Path.{◌≡◌, refl, sym, ap, ◌∙◌}
-use mathlib.Core.Bool.{Bool, true, false}
-use mathlib.Core.Logic.{⊎_elim}
-use mathlib.Core.List.{List, [], ◌∷◌}
-use Prim.Native.Nat.{ℕ, suc, ◌+◌, ◌-◌, ◌<◌, ◌≤◌}
+use Rattle.std.proofs.Common.{◌≡◌, refl, ap, ◌∙◌, Bool, true, false, ◌&&◌, List, [], ◌∷◌, ℕ, suc, ◌+◌, ◌<◌, ◌≤◌, length, get_or, take, drop, Some, None, eqb, ltb, ◌==◌, cond, arith}
 use native.Mathlib.Nat.{not-suc-le-zero}
-use native.Mathlib.Numerals.{add-one}
-use native.Mathlib.Omega.{arith}
-use borrow.Author.Tests.{eq-eqb, ne_eqb}
-use mir.Syntax.{w64}
-use mir.Val.{Fits}
-use lib.Dec.{eqb}
-use lib.ListN.{length, take, drop, get_or, length-drop, drop_of_length-le}
-use lib.Seq.{drop-cons, drop-drop, take_all}
+use lib.Pointwise.{pointwise}
+use Rattle.base.specs.Lists.{same}
+use borrow.Author.Tests.{ltb-true, ltb-false, lt-ltb, le-ltb, eq-eqb, ne_eqb}
+use mathlib.Core.Logic.{◌⊎◌, inl, inr}
 use Rattle.base.proofs.Tests.{le-or-lt}
-use Rattle.lines.specs.Lines.{max_line, space, into_first, line_words}
-use Rattle.lines.specs.Reading.{until_space, word_end}
+use Rattle.std.proofs.lemmas.List.Sums.{position_or_len_is}
+use Rattle.std.specs.List.{position, position_or_len}
+use Rattle.std.proofs.lemmas.List.Recursion.{is_position_or_len}
+use Rattle.lines.specs.Lines.{space, into_first, line_words}
 
--- one turn of the walk to the end of a word, and its end
-pub end_more : (s : List ℕ) (i : ℕ) → i < length s → (get_or s i 0 ≡ space → ⊥) → word_end i s ≡ word_end (i + 1) s
-unfolding until_space
-end_more s i h n = rw (add-one, drop-cons s i 0, ne_eqb _ _ n, until_space) (omega arith)
+pub same-pointwise : (xs ys : List ℕ) → pointwise eqb xs ys ≡ same xs ys
+same-pointwise [] [] = refl
+same-pointwise [] (y ∷ ys) = refl
+same-pointwise (x ∷ xs) [] = refl
+same-pointwise (x ∷ xs) (y ∷ ys) = ap (λ (t : Bool). eqb x y && t) (same-pointwise xs ys)
 
-pub end-stop : (s : List ℕ) (i : ℕ) → i < length s → get_or s i 0 ≡ space → i ≡ word_end i s
-unfolding until_space
-end-stop s i h e = rw (drop-cons s i 0, eq-eqb _ _ e, until_space) (omega arith)
+-- the first space, and none
+pub space-at : (s : List ℕ) (at : ℕ) → at < length s → ((k : ℕ) → k < at → (get_or s k 0 == 32) ≡ false) → get_or s at 0 ≡ 32
+    → Some at ≡ position (λ b. b == 32) s
+space-at s at h before e =
+    let first : position_or_len (λ b. b == 32) s ≡ at = position_or_len_is (λ b. b == 32) s at 0 (omega arith) before (λ _. eq-eqb _ _ e) in
+    rw (first, lt-ltb at (length s) h)
 
-pub end-past : (s : List ℕ) (i : ℕ) → length s ≤ i → i ≡ word_end i s
-unfolding until_space
-end-past s i h = rw (drop_of_length-le s h) (omega arith)
+pub spaceless : (s : List ℕ) → ((k : ℕ) → k < length s → (get_or s k 0 == 32) ≡ false) → None ≡ position (λ b. b == 32) s
+spaceless s before =
+    let first : position_or_len (λ b. b == 32) s ≡ length s = position_or_len_is (λ b. b == 32) s (length s) 0 (omega arith) before (λ h. absurd (omega arith)) in
+    rw (first, le-ltb (length s) (length s) (omega arith))
 
-until-le : (s : List ℕ) → until_space s ≤ length s
-unfolding until_space
-until-le [] = omega arith
-until-le (b ∷ bs) = by-test (eqb b space) (until-le bs)
+pub no-space-more : (s : List ℕ) (i : ℕ) → ((k : ℕ) → k < i → (get_or s k 0 == 32) ≡ false) → (get_or s i 0 ≡ 32 → ⊥)
+    → (k : ℕ) → k < i + 1 → (get_or s k 0 == 32) ≡ false
+no-space-more s i before n k h = by-place (le-or-lt i k)
   where
-    by-test : (t : Bool) → until_space bs ≤ length bs → elim t as (λ x. ℕ) [ true ↦ 0 | false ↦ suc (until_space bs) ] ≤ suc (length bs)
-    by-test true h = omega arith
-    by-test false h = omega arith
+    by-place : (i ≤ k) ⊎ (k < i) → (get_or s k 0 == 32) ≡ false
+    by-place (inl l) = let e : k ≡ i = omega arith in rw e (ne_eqb _ _ n)
+    by-place (inr l) = before k l
 
--- the place behind a word's end, in a line that is not too long
-pub next_fits : (e n : ℕ) → e < n → n ≤ max_line → Fits w64 (e + 1)
-next_fits e n h l = record { fits = omega arith }
+-- how many bytes stand before the first space
+unfoldable until_space : List ℕ → ℕ
+until_space [] = 0
+until_space (b ∷ bs) = elim (eqb b space) [ true ↦ 0 | false ↦ suc (until_space bs) ]
 
-pub start-le : (s : List ℕ) (at e : ℕ) → e ≡ word_end at s → at ≤ e
-start-le s at e q = omega arith
-
-pub end-le : (s : List ℕ) (at e : ℕ) → e ≡ word_end at s → at ≤ length s → e ≤ length s
-end-le s at e q h = omega (arith, until-le (drop at s), length-drop at s)
+until-first : (s : List ℕ) → until_space s ≡ position_or_len (λ b. b == 32) s
+unfolding until_space
+until-first s = is_position_or_len until_space (λ b. b == 32) refl (λ b bs. by-test (eqb b space) (until_space bs)) s
+  where
+    by-test : (t : Bool) (n : ℕ) → elim t as (λ x. ℕ) [ true ↦ 0 | false ↦ suc n ] ≡ cond t 0 (1 + n)
+    by-test true n = refl
+    by-test false n = omega arith
 
 first_word : (s : List ℕ) → until_space s < length s → line_words s ≡ take (until_space s) s ∷ line_words (drop (suc (until_space s)) s)
 unfolding until_space line_words into_first
@@ -73,26 +74,26 @@ only-word (b ∷ bs) h = by-test (eqb b space) (only-word bs) h
     by-test true f k = absurd (not-suc-le-zero k)
     by-test false f k = rw (f (omega arith))
 
--- the word that begins at a place, with what follows, and the last word
-pub word_more : (s : List ℕ) (at e : ℕ) → e ≡ word_end at s → e < length s
-    → line_words (drop at s) ≡ take (e - at) (drop at s) ∷ line_words (drop (e + 1) s)
-word_more s at e q h =
-    first_word (drop at s) (omega (arith, length-drop at s))
-    ∙ (λ i. take (len i) (drop at s) ∷ line_words (rest i))
+-- a word and what follows its space, and the last word
+pub word_more : (s : List ℕ) (n : ℕ) → position (λ b. b == 32) s ≡ Some n → line_words s ≡ take n s ∷ line_words (drop (n + 1) s)
+word_more s n e = by-test (ltb (position_or_len (λ b. b == 32) s) (length s)) refl e
   where
-    len : until_space (drop at s) ≡ e - at
-    len = omega arith
+    by-test : (t : Bool) → ltb (position_or_len (λ b. b == 32) s) (length s) ≡ t → cond t (Some (position_or_len (λ b. b == 32) s)) None ≡ Some n
+        → line_words s ≡ take n s ∷ line_words (drop (n + 1) s)
+    by-test false q f = cc
+    by-test true q f =
+        let first : until_space s ≡ n = until-first s ∙ cc in
+        let inside : until_space s < length s = rw (until-first s) (ltb-true (position_or_len (λ b. b == 32) s) (length s) q) in
+        let next : suc (until_space s) ≡ n + 1 = omega arith in
+        first_word s inside ∙ (λ i. take (first i) s ∷ line_words (drop (next i) s))
 
-    rest : drop (suc (until_space (drop at s))) (drop at s) ≡ drop (e + 1) s
-    rest = drop-drop (suc (until_space (drop at s))) at s ∙ ap (λ (n : ℕ). drop n s) next
-      where
-        next : at + suc (until_space (drop at s)) ≡ e + 1
-        next = omega arith
-
-pub word-last : (s : List ℕ) (at e : ℕ) → e ≡ word_end at s → length s ≤ e → line_words (drop at s) ≡ take (e - at) (drop at s) ∷ []
-word-last s at e q h =
-    only-word (drop at s) (omega (arith, length-drop at s))
-    ∙ ap (λ (w : List ℕ). w ∷ []) (sym (take_all (e - at) (drop at s) (omega (arith, length-drop at s))))
+pub word-last : (s : List ℕ) → position (λ b. b == 32) s ≡ None → line_words s ≡ s ∷ []
+word-last s e = by-test (ltb (position_or_len (λ b. b == 32) s) (length s)) refl e
+  where
+    by-test : (t : Bool) → ltb (position_or_len (λ b. b == 32) s) (length s) ≡ t → cond t (Some (position_or_len (λ b. b == 32) s)) None ≡ None
+        → line_words s ≡ s ∷ []
+    by-test true q f = cc
+    by-test false q f = only-word s (rw (until-first s) (ltb-false (position_or_len (λ b. b == 32) s) (length s) q))
 
 -- a word in front of the words that follow
 pub then : {A : Type 0} {x : A} {xs ys zs : List A} → xs ≡ x ∷ ys → ys ≡ zs → xs ≡ x ∷ zs

@@ -1,103 +1,46 @@
 // Unsigned decimals without leading zeros.
-ghost use Rattle.std.specs.Prelude.{◌≡◌, ◌<◌, ◌^◌};
+ghost use Rattle.std.specs.Prelude.{◌≡◌};
 ghost use Rattle.lines.specs.Reading.{word_number, with_digit, with_digits};
 
-// A number, and whether there is one; its value is 0 where there is none.
-#[derive(Clone, Copy)]
-pub struct Number {
-    pub ok: bool,
-    pub value: u64,
-}
-
-// The largest number that takes a digit more, 2^64 divided by ten.
-const TENTH: u64 = 1844674407370955161;
-
 // `n` with one digit more.
-fn with_digit(n: u64, b: u8) -> Number
+fn with_digit(n: u64, b: u8) -> Option<u64>
     ensures { result ≡ with_digit n b }
 {
-    if b < b'0' {
-        return Number {
-            ok: false,
-            value: 0,
-        };
+    if !b.is_ascii_digit() {
+        return None;
     }
-    if b'9' < b {
-        return Number {
-            ok: false,
-            value: 0,
-        };
-    }
-    if TENTH < n {
-        return Number {
-            ok: false,
-            value: 0,
-        };
-    }
-    let digit = (b - b'0') as u64;
-    if 0xffff_ffff_ffff_ffff - 10 * n < digit {
-        return Number {
-            ok: false,
-            value: 0,
-        };
-    }
-    Number {
-        ok: true,
-        value: 10 * n + digit,
-    }
+    let digit = u64::from(b - b'0');
+    n.checked_mul(10)?.checked_add(digit)
 }
 
 // The number that the digits of `w` make.
-fn digits_of(w: &[u8]) -> Number
+fn digits_of(w: &[u8]) -> Option<u64>
     ensures { result ≡ with_digits 0 w.now }
 {
-    let mut n: u64 = 0;
-    let mut i = 0;
-    while i < w.len() {
-        let next = with_digit(n, w[i]);
-        if !next.ok {
-            return Number {
-                ok: false,
-                value: 0,
-            };
-        }
-        n = next.value;
-        i += 1;
+    let mut n = 0;
+    for b in w {
+        n = with_digit(n, *b)?;
     }
-    Number { ok: true, value: n }
+    Some(n)
 }
 
 // A word as a number below 2^64.
-pub(crate) fn word_number(w: &[u8]) -> Number
+pub(crate) fn word_number(w: &[u8]) -> Option<u64>
     ensures { result ≡ word_number 64 w.now }
 {
-    if w.len() < 1 {
-        return Number {
-            ok: false,
-            value: 0,
-        };
+    if w.is_empty() {
+        return None;
     }
+    // By its index: behind a slice pattern a proof knows the length alone.
     if (w[0] == b'0') & (1 < w.len()) {
-        return Number {
-            ok: false,
-            value: 0,
-        };
+        return None;
     }
     digits_of(w)
 }
 
 // A word as a number below 2^32.
-pub(crate) fn word32_number(w: &[u8]) -> Number
-    ensures value { result ≡ word_number 32 w.now }
-    ensures value_bound { result.value < 2 ^ 32 }
+pub(crate) fn word32_number(w: &[u8]) -> Option<u32>
+    ensures { result ≡ word_number 32 w.now }
 {
-    let n = word_number(w);
-    let value = n.value;
-    if 0xffff_ffff < value {
-        return Number {
-            ok: false,
-            value: 0,
-        };
-    }
-    n
+    u32::try_from(word_number(w)?).ok()
 }

@@ -9,145 +9,125 @@ mod errors;
 
 ghost use Rattle.std.specs.Prelude.{◌≤◌, length};
 
+use errors::Failure;
 use replay_log::Replay;
 use std::fs;
-use std::io::{Error, Read};
+use std::io::{Error, Read, Write};
 use std::rt::Files;
 
-// A replay, and whether it goes on.
-#[derive(Clone, Copy)]
-struct Went {
-    replay: Replay,
-    on: bool,
-}
-
-// Whether a file that was read has come to its end, or fills what it was read into.
-fn is_read<R: Read>(file: &mut R, n: usize, room: usize, why: &mut Error) -> bool {
-    let mut more = [0u8; 1];
-    let came = streams::read_once(file, &mut more, why);
-    (n == room) | (came == Some(0))
-}
-
-// Reads the system record; of a file that is missing or cannot be read, no bytes.
-fn system_bytes(rt: &(impl Files + Eprint), bytes: &mut [u8]) -> usize
-    ensures { result ≤ length bytes.new }
-{
-    let mut file = match fs::open(rt, "system.tss") {
-        Ok(file) => file,
-        Err(e) => {
-            errors::fail(
-                rt,
-                "replay: system.tss cannot be opened, so the system record is empty",
-                e,
-            );
-            return 0;
-        }
+// Reads the system record to the start of `bytes`, and gives how many bytes it has. A file that stops
+// short of the room has to be at its end, which one more read tells.
+fn read_system(rt: &impl Files, bytes: &mut [u8]) -> Result<usize, Failure> {
+    let mut file = fs::open(rt, "system.tss").map_err(Failure::NotOpened)?;
+    let (n, why) = match streams::read_full(&mut file, bytes) {
+        Ok(n) => (n, None),
+        Err(e) => (e.moved, Some(e.why)),
     };
-    let mut why = streams::no_error();
-    let n = streams::read_full(&mut file, bytes, &mut why);
-    if !is_read(&mut file, n, bytes.len(), &mut why) {
-        errors::fail(
-            rt,
-            "replay: system.tss cannot be read, so the system record is empty",
-            why,
-        );
-        return 0;
+    if n == bytes.len() {
+        return Ok(n);
     }
-    n
+    match file.read(&mut [0u8; 1]) {
+        Ok(0) => Ok(n),
+        Ok(_) => {
+            // Where no read failed, there are more bytes than the room has: the system names no error.
+            let why = why.unwrap_or(Error::from_raw_os_error(0));
+            Err(Failure::NotRead(why))
+        }
+        Err(why) => Err(Failure::NotRead(why)),
+    }
 }
 
-// Writes the first `n` bytes of `out`; where that fails, says so.
-fn wrote(rt: &(impl Print + Eprint), out: &[u8], n: usize) -> bool {
-    let text = if n < out.len() { &out[0..n] } else { out };
-    let mut why = streams::no_error();
-    if streams::write_all(rt, text, &mut why) {
-        return true;
+// The system record; of a file that is missing or cannot be read, no bytes.
+fn system_record<'a>(rt: &(impl Files + Eprint), bytes: &'a mut [u8]) -> &'a [u8] {
+    match read_system(rt, bytes) {
+        Ok(n) => bytes.get(..n).unwrap_or(b""),
+        Err(failure) => {
+            errors::say(rt, failure);
+            b""
+        }
     }
-    errors::fail(
-        rt,
-        "replay: the answers cannot be written, so the replay stops here",
-        why,
-    );
-    false
 }
 
-// Replays a piece of the log and writes the answers.
-fn replay_piece(rt: &(impl Print + Eprint), from: Replay, log: &[u8], out: &mut [u8]) -> Went {
+// Writes answers.
+fn write_answers<W: Write>(to: &mut W, answers: &[u8]) -> Result<(), Failure> {
+    streams::write_all(to, answers).map_err(|e| Failure::NotWritten(e.why))
+}
+
+// Replays a piece of the log and writes the answers. Gives the replay to go on with, and nothing where
+// no more of the piece is taken.
+fn replay_piece<W: Write>(
+    to: &mut W,
+    from: Replay,
+    log: &[u8],
+    out: &mut [u8],
+) -> Result<Option<Replay>, Failure> {
     let mut replay = from;
-    let mut at = 0;
-    while at < log.len() {
-        let ran = replay_log::run(replay, &log[at..], out);
+    let mut rest = log;
+    // A run says how much of the piece it took.
+    while !rest.is_empty() {
+        let ran = replay_log::run(replay, rest, out);
+        write_answers(to, &out[..ran.written])?;
+        if ran.taken == 0 {
+            return Ok(None);
+        }
         replay = ran.replay;
-        let taken = ran.taken;
-        if !wrote(rt, out, ran.written) {
-            return Went { replay, on: false };
-        }
-        if taken == 0 {
-            return Went { replay, on: false };
-        }
-        at += taken;
+        rest = &rest[ran.taken..];
     }
-    Went { replay, on: true }
+    Ok(Some(replay))
 }
 
 // Reads once and replays what came; at the end of the input, replays a last line without its line
-// feed. An input that breaks off has no last line.
-fn replay_some<R: Read>(
-    rt: &(impl Print + Eprint),
+// feed, and gives nothing to go on with. An input that breaks off has no last line.
+fn replay_some<R: Read, W: Write>(
     input: &mut R,
+    to: &mut W,
     from: Replay,
     piece: &mut [u8],
     out: &mut [u8],
-) -> Went {
-    let mut why = streams::no_error();
-    let Some(n) = streams::read_once(input, piece, &mut why) else {
-        errors::fail(
-            rt,
-            "replay: the log breaks off here, it cannot be read further",
-            why,
-        );
-        return Went {
-            replay: from,
-            on: false,
-        };
-    };
-    if 0 < n {
-        return replay_piece(rt, from, &piece[..n], out);
-    }
-    let k = replay_log::finish(from, out);
-    wrote(rt, out, k);
-    Went {
-        replay: from,
-        on: false,
+) -> Result<Option<Replay>, Failure> {
+    match input.read(piece) {
+        Ok(0) => {
+            let n = replay_log::finish(from, out);
+            write_answers(to, out.get(..n).unwrap_or(out))?;
+            Ok(None)
+        }
+        Ok(n) => replay_piece(to, from, &piece[..n], out),
+        Err(why) => Err(Failure::LogBroken(why)),
     }
 }
 
 // Replays standard input. A proved loop has to end, and nothing says that an input does, so the
 // loop counts its turns up to a number that no run comes to.
-fn replay_all<R: Read>(rt: &(impl Print + Eprint), input: &mut R, from: Replay) {
+fn replay_all<R: Read, W: Write>(input: &mut R, to: &mut W, from: Replay) -> Result<(), Failure> {
     let mut piece = [0u8; 65536];
     let mut out = [0u8; 65536];
-    let mut went = Went {
-        replay: from,
-        on: true,
-    };
+    let mut replay = from;
     for _ in 0..u64::MAX {
-        let replay = went.replay;
-        went = replay_some(rt, input, replay, &mut piece, &mut out);
-        if !went.on {
-            return;
+        match replay_some(input, to, replay, &mut piece, &mut out)? {
+            Some(next) => replay = next,
+            None => return Ok(()),
         }
     }
+    Ok(())
+}
+
+// Boots from the system record, and replays the log unless boot refuses.
+fn run(rt: &HostRuntime) -> Result<(), Failure> {
+    let mut bytes = [0u8; 4096];
+    let booted = machine_state::boot(system_record(rt, &mut bytes));
+    let code = booted.code;
+    let machine = booted.machine;
+    let mut to = rt.stdout();
+    let n = texts::put_boot(code, &mut bytes);
+    write_answers(&mut to, bytes.get(..n).unwrap_or(&bytes))?;
+    if code != 0 {
+        return Ok(());
+    }
+    replay_all(&mut rt.stdin(), &mut to, replay_log::start(machine))
 }
 
 fn main(rt: HostRuntime) {
-    let mut bytes = [0u8; 4096];
-    let n = system_bytes(&rt, &mut bytes);
-    let booted = machine_state::boot(&bytes[0..n]);
-    let code = booted.code;
-    let machine = booted.machine;
-    let k = texts::put_boot(code, &mut bytes);
-    if wrote(&rt, &bytes, k) & (code == 0) {
-        replay_all(&rt, &mut rt.stdin(), replay_log::start(machine));
+    if let Err(failure) = run(&rt) {
+        errors::say(&rt, failure);
     }
 }

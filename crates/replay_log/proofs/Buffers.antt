@@ -1,18 +1,18 @@
 -- The buffers of a run: bytes put behind a line as far as they fit, a record put to the start of its buffer, an answer's line put behind what
 -- is written, and the sums that keep the run's places inside. Assumes nothing.
 use mathlib.Core.Path.{◌≡◌, refl, sym, ap, ◌∙◌}
-use mathlib.Core.Bool.{Bool, true, false, ◌&&◌}
+use mathlib.Core.Bool.{Bool, true, false}
 use mathlib.Core.Logic.{◌⊎◌, inl, inr}
 use mathlib.Core.List.{List, [], ◌++◌}
 use Prim.Native.Nat.{ℕ, ◌+◌, ◌-◌, ◌^◌, ◌≤◌, ◌<◌, min}
 use native.Mathlib.Nat.{}
 use mathlib.Core.List.{append-nil}
 use native.Mathlib.Omega.{arith}
-use lib.Dec.{ltb, leb}
+use lib.Dec.{ltb}
 use lib.ListN.{length, take, drop, drop_of_length-le, length-take, length-drop, length-append}
 use lib.Seq.{take_all, take-length, take-append-add, length-take-le, take_at, drop_at, drop-append-add, drop-drop}
-use borrow.Author.Tests.{le-ltb, ltb-true, leb-true}
-use Rattle.base.proofs.Tests.{le-or-lt, holds, is_true, and_left, and_right}
+use borrow.Author.Tests.{le-ltb}
+use Rattle.base.proofs.Tests.{le-or-lt}
 use Rattle.lines.specs.Lines.{max_record, line_record}
 use Rattle.lines.proofs.Laws.{record-short}
 use Rattle.machine_state.specs.declared.Answer.{Answer}
@@ -53,16 +53,6 @@ module _ (line buffer after : List ℕ) (n : ℕ) (size : length buffer ≡ max_
 
   front : take n (line_record line) ≡ line_record line
   front = take_all n (line_record line) (let e = whole in omega arith)
-
-  pub record-size : length after ≡ max_record
-  record-size =
-      let e = whole in
-      let low = record-inside in
-      ap length (is_after ∙ ap (λ (r : List ℕ). r ++ drop n buffer) front) ∙ length-append (line_record line) (drop n buffer)
-      ∙ sum (length (line_record line)) n (length buffer) (length (drop n buffer)) e (length-drop n buffer) low ∙ size
-    where
-      sum : (a n size rest : ℕ) → n ≡ a → rest ≡ size - n → n ≤ size → a + rest ≡ size
-      sum a n size rest e d h = omega arith
 
   pub record-read : take n after ≡ line_record line
   record-read =
@@ -137,14 +127,6 @@ module _ (answer : Answer) (out after : List ℕ) (w n : ℕ) (is_room : 32 ≤ 
         sizes : (a b c d f total n : ℕ) → a ≡ w → b ≡ c + d → d ≡ f - c → f ≡ total - w → w + n ≤ total → n ≡ c → a + b ≡ total
         sizes a b c d f total n ea eb ed ef h en = omega arith
 
--- the test before a turn
-pub may-go : (at given w room : ℕ) (r : Bool) → r ≡ (ltb at given && leb 32 (room - w)) → r ≡ true → (at < given) × (32 ≤ room - w)
-may-go at given w room r e t =
-    let both = holds (sym e ∙ t) in (
-      ltb-true at given (is_true _ (and_left (ltb at given) (leb 32 (room - w)) both)),
-      leb-true 32 (room - w) (is_true _ (and_right (ltb at given) (leb 32 (room - w)) both)),
-    )
-
 -- the first bytes of a line, where the count was cut to what is kept
 pub kept-bytes : (line : List ℕ) (len n : ℕ) → length line ≡ kept_bytes → n ≡ min len kept_bytes → take n line ≡ take len line
 kept-bytes line len n size e = ap (λ (k : ℕ). take k line) (e ∙ ap (min len) (sym size)) ∙ take_min len line
@@ -159,10 +141,6 @@ next-inside end given h = omega arith
 
 pub sum_fits : (w n size : ℕ) → w + n ≤ size → size < 2 ^ 64 → w + n < 2 ^ 64
 sum_fits w n size h f = omega arith
-
--- a part from the start
-pub whole_part : (n : ℕ) (l : List ℕ) → take (n - 0) l ≡ take n l
-whole_part n l = let e : n - 0 ≡ n = omega arith in ap (λ (k : ℕ). take k l) e
 
 -- what lies behind a place lies behind a later one
 pub drop-further : (out out₀ : List ℕ) (w n : ℕ) → drop w out ≡ drop w out₀ → drop (w + n) out ≡ drop (w + n) out₀

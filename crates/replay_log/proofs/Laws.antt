@@ -10,9 +10,8 @@ use mathlib.Core.List.{append-nil, append_assoc}
 use native.Mathlib.Numerals.{add-one}
 use native.Mathlib.Omega.{arith}
 use lib.Dec.{eqb}
-use lib.ListN.{length, take, drop, get_or, drop_of_length-le, length-take, length-drop}
-use lib.Seq.{take-suc, drop-cons, take_all, take-add, get_or-drop}
-use borrow.Author.Tests.{eq-eqb, ne_eqb}
+use lib.ListN.{length, take, drop, get_or, length-take, length-drop}
+use lib.Seq.{take-suc, take_all, take-add, get_or-drop}
 use Rattle.machine_state.specs.declared.Event.{Event}
 use Rattle.machine_state.specs.declared.Machine.{Machine}
 use Rattle.machine_state.specs.declared.Stepped.{Stepped}
@@ -26,20 +25,6 @@ use Rattle.texts.specs.Texts.{answer_line, boot_line}
 use Rattle.texts.proofs.Laws.{answer-short}
 use Rattle.replay_log.specs.Replay.{line_feed, last_line, lines_from, lines_of, step_line, answers_to, unless_negative, replay_text}
 use Rattle.replay_log.specs.Feed.{Going, ended, longer, feed_byte, feed, end_of, text_at_end, line_length, kept_bytes}
-
--- one turn of the search for a line feed, and its two ends
-module _ (log : List ℕ) (i : ℕ) where
-  pub length_more : i < length log → (get_or log i 0 ≡ line_feed → ⊥) → i + line_length (drop i log) ≡ (i + 1) + line_length (drop (i + 1) log)
-  unfolding line_length
-  length_more h n = rw (add-one, drop-cons log i 0, ne_eqb (get_or log i 0) line_feed n, line_length) (omega arith)
-
-  pub length-stop : i < length log → get_or log i 0 ≡ line_feed → i ≡ i + line_length (drop i log)
-  unfolding line_length
-  length-stop h e = rw (drop-cons log i 0, eq-eqb (get_or log i 0) line_feed e, line_length) (omega arith)
-
-  pub length-end : length log ≤ i → i ≡ i + line_length (drop i log)
-  unfolding line_length
-  length-end h = rw (drop_of_length-le log h) (omega arith)
 
 -- two pieces are fed one after the other
 pub feed-append : (xs ys : List ℕ) (g : Going) → feed (xs ++ ys) g ≡ feed ys (feed xs g)

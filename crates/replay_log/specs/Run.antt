@@ -1,29 +1,10 @@
 -- What a run over a piece of a log gives.
-use Rattle.std.specs.Prelude.{◌≡◌, Bool, true, false, ◌&&◌, List, [], ◌++◌, ℕ, ◌+◌, ◌-◌, ◌≤◌, min, leb, ltb, eqb, length, take, drop}
+use Rattle.std.specs.Prelude.{◌≡◌, false, ◌&&◌, List, [], ◌++◌, ℕ, ◌+◌, ◌-◌, ◌≤◌, leb, ltb, length, take, drop}
 use Rattle.machine_state.specs.declared.Answer.{Answer}
 use Rattle.texts.specs.Texts.{answer_line}
-use Rattle.replay_log.specs.declared.Progress.{Progress}
-use Rattle.replay_log.specs.declared.Progress.TheVariants.{Reading, Looking, Deciding, Applying, Storing}
 use Rattle.replay_log.specs.declared.Replay.{Replay}
 use Rattle.replay_log.specs.declared.Ran.{Ran}
-use Rattle.replay_log.specs.Feed.{feed, going_of, kept_bytes}
-
--- another turn comes: a line that was read is brought to its end, and a line is read where bytes are left, and room for an answer
-unfoldable pub goes_on : Progress → ℕ → ℕ → ℕ → ℕ → Bool
-goes_on Reading at given written room = ltb at given && leb 32 (room - written)
-goes_on Looking at given written room = true
-goes_on Deciding at given written room = true
-goes_on Applying at given written room = true
-goes_on Storing at given written room = true
-
--- a line is decided once no cell is left to look at
-unfoldable pub to_decide : ℕ → Progress
-to_decide left = elim (eqb left 0) [ true ↦ Deciding | false ↦ Looking ]
-
--- so many bytes of a kept line count, of which no more are kept
-pub record Begun (line : List ℕ) (len r : ℕ) : Type 0 where
-  pub is : r ≡ min len kept_bytes
-  pub size : length line ≡ kept_bytes
+use Rattle.replay_log.specs.Feed.{feed, going_of}
 
 -- an answer's line stands behind what was written, and nothing else is changed
 pub record Puts (answer : Answer) (written : ℕ) (before : List ℕ) (place : ℕ) (after : List ℕ) : Type 0 where

@@ -1,21 +1,21 @@
 -- Laws of lines: texts written one after the other, decimals digit by digit, and how long a line is. Assumes nothing.
-use mathlib.Core.Path.{◌≡◌, refl, ap, ◌∙◌}
+use mathlib.Core.Path.{◌≡◌, refl, sym, ap, ◌∙◌}
 use mathlib.Core.Bool.{Bool, true, false}
-use mathlib.Core.List.{List, [], ◌∷◌, ◌++◌}
-use Prim.Native.Nat.{ℕ, zero, suc, ◌+◌, ◌/◌, ◌%◌, ◌^◌, ◌<◌, ◌≤◌, zero-le}
-use native.Mathlib.Nat.{zero-add, suc-add, add-suc, add-zero, add_assoc}
-use native.Mathlib.Numerals.{add-one}
+use mathlib.Core.List.{List, [], ◌∷◌, ◌++◌, append_assoc}
+use Prim.Native.Nat.{ℕ, zero, suc, ◌+◌, ◌-◌, ◌/◌, ◌%◌, ◌^◌, ◌<◌, ◌≤◌, zero-le}
+use native.Mathlib.Nat.{zero-add, suc-add, add-suc, add-zero}
 use native.Mathlib.Omega.{arith}
 use borrow.Author.Tests.{lt-ltb, le-ltb}
 use lib.Dec.{ltb}
 use lib.IntN.{ℤ, pos, negsuc, nat_abs}
 use lib.Signed.{lt_z}
-use lib.ListN.{length, get_or, take, drop, set, length-append}
-use lib.Seq.{sets, length-sets, sets-eq, take-suc}
+use lib.ListN.{length, take, drop, set, length-append}
+use lib.Seq.{sets, length-sets, sets-eq}
+use borrow.Rule.Slice.PartMut.{put_mid, post_of, Post-is}
 use Rattle.machine_state.specs.declared.Answer.{Answer}
 use Rattle.machine_state.specs.declared.Answer.TheVariants.{Code, Wait, Done, Off, Bad, Stopped, Held, Denied, Idle}
-use Rattle.texts.specs.Texts.{decimal_in, decimal, signed, answer_text, answer_line, boot_line, put_line, put_count}
-use Rattle.texts.specs.Put.{Put}
+use Rattle.texts.specs.Texts.{decimal_in, decimal, signed, answer_text, answer_line, put_line, put_count}
+use Rattle.texts.specs.Put.{Put, word_of, number_of}
 
 -- a text written behind another is the two written at once
 sets-append : (a b l : List ℕ) (i : ℕ) → sets (sets l i a) (i + length a) b ≡ sets l i (a ++ b)
@@ -34,15 +34,20 @@ put_byte a v p = put_both a (v ∷ []) p (record { place = refl; bytes = refl })
 pub put-length : {a l m : List ℕ} {at r : ℕ} → Put at a l r m → length m ≡ length l
 put-length {a} {l} {m} {at} p = ap length p.bytes ∙ length-sets l at a
 
--- the place behind two texts, where the buffer has one byte more
-pub put-room : (a b : List ℕ) (k : ℕ) {at r : ℕ} {l m : List ℕ} → Put at (a ++ b) l r m → length b ≤ k → at + length a + k < length l
-    → r < length m
-put-room a b k p h f = rw (put-length p) (omega (arith, length-append a b))
+-- the place behind a text, in a buffer with room for a line
+pub room : (text : List ℕ) (k : ℕ) {r : ℕ} {l m : List ℕ} → Put 0 text l r m → length text + k ≤ 32 → 32 ≤ length l → r + k ≤ length m
+room text k p h f = omega (arith, p.place, put-length p)
 
--- one turn of a copy
-pub copy-turn : (text : List ℕ) (i : ℕ) {l m : List ℕ} {at : ℕ} → i < length text → Put at (take i text) l (at + i) m
-    → Put at (take (i + 1) text) l (at + (i + 1)) (set m (at + i) (get_or text i 0))
-copy-turn text i {at = at} h p = rw (← add_assoc at i 1, add-one i, take-suc text i 0 h) (put_byte (take i text) (get_or text i 0) p)
+-- a text that is copied over a part of the buffer
+pub put-copied : (text out : List ℕ) (at : ℕ) {new : List ℕ} → new ≡ text → at + length text ≤ length out
+    → Put at text out (at + length text) (put_mid at (at + length text - at) out new)
+put-copied text out at e h = record {
+  place = refl;
+  bytes = ap (λ (l : List ℕ). take at out ++ (l ++ post_of at (at + length text - at) out)) e
+      ∙ ap (λ (l : List ℕ). take at out ++ (text ++ l)) (Post-is at (at + length text) out (omega arith))
+      ∙ sym (append_assoc (take at out) text (drop (at + length text) out))
+      ∙ sym (sets-eq text out at h);
+}
 
 -- a line at the start of a buffer that has room for it
 pub line-put : (line : List ℕ) {l m : List ℕ} {r : ℕ} → length line ≤ 32 → 32 ≤ length l → Put 0 line l r m
@@ -120,9 +125,6 @@ answer-short Held = omega arith
 answer-short Denied = omega arith
 answer-short Idle = omega arith
 
-pub boot-short : (code : ℤ) → length (boot_line code) ≤ 32
-boot-short code = simp length-append (omega (arith, signed-short code))
-
 -- a number below zero and any other, its size written in decimals; `y` is the number as it is read from its bits
 signed_below : (z : ℤ) → lt_z z (pos 0) ≡ true → signed z ≡ 0x2d ∷ decimal (nat_abs z)
 unfolding signed
@@ -143,10 +145,54 @@ pub put-from : {y z : ℤ} {n at r : ℕ} {l m : List ℕ} → y ≡ z → lt_z 
     → Put at (decimal n) l r m → Put at (signed z) l r m
 put-from {y} b e s p = rw (← b, signed-from y e, ← s) p
 
--- an answer's line, written for the answer `b` that `a` is
-pub answer-put : {a b : Answer} {l m : List ℕ} {r : ℕ} → a ≡ b → 32 ≤ length l → Put 0 (answer_line b) l r m
-    → (r ≡ put_count 32 (answer_line a) l) × (m ≡ put_line 32 (answer_line a) l)
-answer-put {a} e h p = line-put (answer_line a) (answer-short a) h (rw e p)
+-- ---- a word, the number behind it and the line feed
+
+-- an answer's text is its word and its number
+pub answer-parts : (a : Answer) → word_of a ++ number_of a ≡ answer_text a
+unfolding answer_text
+answer-parts (Code code) = refl
+answer-parts (Wait cell) = refl
+answer-parts Done = refl
+answer-parts Off = refl
+answer-parts Bad = refl
+answer-parts Stopped = refl
+answer-parts Held = refl
+answer-parts Denied = refl
+answer-parts Idle = refl
+
+pub word-short : (a : Answer) → length (word_of a) ≤ 7
+unfolding answer_text
+word-short (Code code) = omega arith
+word-short (Wait cell) = omega arith
+word-short Done = omega arith
+word-short Off = omega arith
+word-short Bad = omega arith
+word-short Stopped = omega arith
+word-short Held = omega arith
+word-short Denied = omega arith
+word-short Idle = omega arith
+
+pub number-short : (a : Answer) → length (number_of a) ≤ 21
+number-short (Code code) = signed-short code
+number-short (Wait cell) = omega (arith, decimal-short cell)
+number-short Done = omega arith
+number-short Off = omega arith
+number-short Bad = omega arith
+number-short Stopped = omega arith
+number-short Held = omega arith
+number-short Denied = omega arith
+number-short Idle = omega arith
+
+pub line-short : (w : List ℕ) (a : Answer) → length w ≤ 7 → length ((w ++ number_of a) ++ (0x0a ∷ [])) ≤ 32
+line-short w a h = rw (length-append (w ++ number_of a) (0x0a ∷ []), length-append w (number_of a)) (omega (arith, number-short a))
+
+-- a text, and a line feed behind it: there is room for it, and the line is written
+pub feed-room : (text : List ℕ) {l m : List ℕ} {r : ℕ} → length (text ++ (0x0a ∷ [])) ≤ 32 → 32 ≤ length l → Put 0 text l r m → r + 1 ≤ length m
+feed-room text h f p = room text 1 p (rw (length-append text (0x0a ∷ [])) at h) f
+
+pub fed-line : (text : List ℕ) {l m n : List ℕ} {r s : ℕ} → length (text ++ (0x0a ∷ [])) ≤ 32 → 32 ≤ length l → Put 0 text l r m → Put r (0x0a ∷ []) m s n
+    → (s ≡ put_count 32 (text ++ (0x0a ∷ [])) l) × (n ≡ put_line 32 (text ++ (0x0a ∷ [])) l)
+fed-line text h f p q = line-put (text ++ (0x0a ∷ [])) h f (put_both text (0x0a ∷ []) p q)
 
 -- what was put lies inside the buffer
 pub count_fits : (line l : List ℕ) → length line ≤ 32 → put_count 32 line l ≤ length (put_line 32 line l)

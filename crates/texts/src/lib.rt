@@ -1,9 +1,9 @@
 // The lines that the replay program prints.
 #![tactic(auto)]
 
-ghost use Rattle.std.specs.Prelude.{◌≡◌, [], ◌∷◌, ◌++◌, ◌+◌, ◌≤◌, length, nat_abs};
-ghost use Rattle.texts.specs.Texts.{decimal, signed, wait_text, answer_line, boot_line, put_line, put_count};
-ghost use Rattle.texts.specs.Put.{Put};
+ghost use Rattle.std.specs.Prelude.{◌≡◌, ◌+◌, ◌≤◌, [], ◌∷◌, ◌++◌, length};
+ghost use Rattle.texts.specs.Texts.{decimal, signed, answer_line, boot_line, put_line, put_count};
+ghost use Rattle.texts.specs.Put.{Put, word_of, number_of};
 
 use machine_state::Answer;
 
@@ -15,15 +15,13 @@ fn put(text: &[u8], at: usize, out: &mut [u8]) -> usize
     requires { at + length text.now ≤ length out.old }
     ensures { Put at text.now out.old result out.new }
 {
-    let mut i = 0;
-    while i < text.len() {
-        out[at + i] = text[i];
-        i += 1;
-    }
-    at + i
+    let end = at + text.len();
+    out[at..end].copy_from_slice(text);
+    end
 }
 
-// The same for a number in decimals.
+// The same for a number in decimals. Not by `write!`: a formatter's contract could not name the bytes of
+// a lent buffer.
 fn put_decimal(n: u64, at: usize, out: &mut [u8]) -> usize
     requires { at + 20 ≤ length out.old }
     ensures { Put at (decimal n) out.old result out.new }
@@ -37,81 +35,78 @@ fn put_decimal(n: u64, at: usize, out: &mut [u8]) -> usize
     end + 1
 }
 
-// A number without its sign.
-fn magnitude(n: i32) -> u64
-    ensures { result ≡ nat_abs n }
-{
-    if n < 0 {
-        (0 - n as i64) as u64
-    } else {
-        n as u64
-    }
-}
-
 // Writes a number with its sign, as `put_decimal` does.
 fn put_signed(n: i32, at: usize, out: &mut [u8]) -> usize
     requires { at + 21 ≤ length out.old }
     ensures { Put at (signed n) out.old result out.new }
 {
+    let size = u64::from(n.unsigned_abs());
     if n < 0 {
         out[at] = b'-';
-        put_decimal(magnitude(n), at + 1, out)
+        put_decimal(size, at + 1, out)
     } else {
-        put_decimal(magnitude(n), at, out)
+        put_decimal(size, at, out)
     }
 }
 
-// Writes a line to the start of `out`, a word and a return code, and gives its length.
-fn put_code(word: &[u8], code: i32, out: &mut [u8]) -> usize
-    requires { length word.now + 22 ≤ length out.old }
-    ensures { Put 0 (word.now ++ signed code ++ (0x0a ∷ [])) out.old result out.new }
+// What an answer's line begins with. A function, and no `Display`: its contract could not name the bytes
+// of a lent buffer.
+#[tactic(auto, unfolding(crate::specs::Texts::answer_text))]
+fn word(a: Answer) -> &'static [u8]
+    ensures { result.now ≡ word_of a }
 {
-    let at = put(word, 0, out);
-    let end = put_signed(code, at, out);
-    out[end] = b'\n';
-    end + 1
+    match a {
+        Answer::Code(_) => b"code ",
+        Answer::Wait(_) => b"wait ",
+        Answer::Done => b"done",
+        Answer::Off => b"off",
+        Answer::Bad => b"bad",
+        Answer::Stopped => b"stopped",
+        Answer::Held => b"held",
+        Answer::Denied => b"denied",
+        Answer::Idle => b"idle",
+    }
 }
 
-// The same for `wait` and a cell.
-fn put_wait(cell: usize, out: &mut [u8]) -> usize
-    requires { 32 ≤ length out.old }
-    ensures { Put 0 (wait_text ++ decimal cell ++ (0x0a ∷ [])) out.old result out.new }
+// Writes the number that an answer's line may have, as `put` does.
+fn put_number(a: Answer, at: usize, out: &mut [u8]) -> usize
+    requires { at + 21 ≤ length out.old }
+    ensures { Put at (number_of a) out.old result out.new }
 {
-    let at = put(b"wait ", 0, out);
-    let end = put_decimal(cell as u64, at, out);
-    out[end] = b'\n';
-    end + 1
+    match a {
+        Answer::Code(code) => put_signed(code, at, out),
+        Answer::Wait(cell) => put_decimal(cell as u64, at, out),
+        _ => at,
+    }
+}
+
+// Writes a line to the start of `out`: a word, and the number that an answer may have. Gives its length.
+fn put_line(word: &[u8], a: Answer, out: &mut [u8]) -> usize
+    requires { length word.now ≤ 7 }
+    ensures value { result ≡ put_count 32 ((word.now ++ number_of a) ++ (0x0a ∷ [])) out.old }
+    ensures out_after { out.new ≡ put_line 32 ((word.now ++ number_of a) ++ (0x0a ∷ [])) out.old }
+{
+    if out.len() < MAX_TEXT {
+        return 0;
+    }
+    let at = put(word, 0, out);
+    let end = put_number(a, at, out);
+    put(b"\n", end, out)
 }
 
 // Writes an answer's line to the start of `out` and gives its length; where `out` has less room
-// than a line may need, nothing is written and the length is 0.
+// than a line may need, nothing is written and the length is 0, as the definition (`put_count`) has it.
 pub fn put_answer(a: Answer, out: &mut [u8]) -> usize
     ensures value { result ≡ put_count 32 (answer_line a) out.old }
     ensures out_after { out.new ≡ put_line 32 (answer_line a) out.old }
 {
-    if out.len() < MAX_TEXT {
-        return 0;
-    }
-    match a {
-        Answer::Code(code) => put_code(b"code ", code, out),
-        Answer::Wait(cell) => put_wait(cell, out),
-        Answer::Done => put(b"done\n", 0, out),
-        Answer::Off => put(b"off\n", 0, out),
-        Answer::Bad => put(b"bad\n", 0, out),
-        Answer::Stopped => put(b"stopped\n", 0, out),
-        Answer::Held => put(b"held\n", 0, out),
-        Answer::Denied => put(b"denied\n", 0, out),
-        Answer::Idle => put(b"idle\n", 0, out),
-    }
+    put_line(word(a), a, out)
 }
 
-// The same for boot's line.
+// The same for boot's line, whose number is its code.
 pub fn put_boot(code: i32, out: &mut [u8]) -> usize
     ensures value { result ≡ put_count 32 (boot_line code) out.old }
     ensures out_after { out.new ≡ put_line 32 (boot_line code) out.old }
 {
-    if out.len() < MAX_TEXT {
-        return 0;
-    }
-    put_code(b"boot ", code, out)
+    put_line(b"boot ", Answer::Code(code), out)
 }

@@ -1,14 +1,57 @@
--- `lines::five_words` meets its contract: it is the definition (`call-said`). Assumes nothing.
-use mathlib.Core.Path.{◌∙◌}
-use Rattle.lines.proofs.EventLaws.{passed, refused, call-said}
+-- `lines::five_words` meets its contract: each exit is decided by the tests before it. Assumes nothing.
+use Rattle.lines.specs.Lines.{event_of}
+use Rattle.lines.proofs.NumberLaws.{not-number, number-is, value-is}
+use Rattle.lines.proofs.EventLaws.{told}
 use Rattle.lines.proofs.five_words.Goals as goal
 
-pub returns-then-is_word-cpu : goal.returns-then-is_word-cpu
-returns-then-is_word-cpu c =
-    passed _ _ _ c.if-is_word-cpu.true
-    ∙ call-said _ _ _ _ _ _ _ _ _ _ c.is_word.ensures c.word_number-cpu.ensures c.word32_number-code.ensures.value c.word_number-arg1.ensures c.word_number-arg2.ensures
+pub returns-then-not-is_word : goal.returns-then-not-is_word
+unfolding event_of
+returns-then-not-is_word c = rw (told c.is_word.ensures c.if-not-is_word.true)
 
-pub returns-else-is_word-cpu : goal.returns-else-is_word-cpu
-returns-else-is_word-cpu c =
-    refused _ _ _ c.if-is_word-cpu.false
-    ∙ call-said _ _ _ _ _ _ _ _ _ _ c.is_word.ensures c.word_number-cpu.ensures c.word32_number-code.ensures.value c.word_number-arg1.ensures c.word_number-arg2.ensures
+pub returns-in_err-cpu : goal.returns-in_err-cpu
+unfolding event_of
+returns-in_err-cpu c =
+    let word = told c.is_word.ensures c.if-not-is_word.false in
+    let none = not-number 64 c.args.a.now (told c.in_err-cpu.was c.word_number.ensures) in
+    rw (c.from_residual.ensures, word, none)
+
+pub returns-in_err-code : goal.returns-in_err-code
+unfolding event_of
+returns-in_err-code c =
+    let word = told c.is_word.ensures c.if-not-is_word.false in
+    let n0 = number-is 64 c.args.a.now _ (told c.in_ok-cpu.was c.word_number.ensures) in
+    let none = not-number 32 c.args.b.now (told c.in_err-code.was c.word32_number.ensures) in
+    rw (c.from_residual-in_err-code.ensures, word, n0, none)
+
+pub returns-in_err-arg1 : goal.returns-in_err-arg1
+unfolding event_of
+returns-in_err-arg1 c =
+    let word = told c.is_word.ensures c.if-not-is_word.false in
+    let n0 = number-is 64 c.args.a.now _ (told c.in_ok-cpu.was c.word_number.ensures) in
+    let n1 = number-is 32 c.args.b.now _ (told c.in_ok-code.was c.word32_number.ensures) in
+    let none = not-number 64 c.args.c.now (told c.in_err-arg1.was c.word_number-2.ensures) in
+    rw (c.from_residual-in_err-arg1.ensures, word, n0, n1, none)
+
+pub returns-in_err-arg2 : goal.returns-in_err-arg2
+unfolding event_of
+returns-in_err-arg2 c =
+    let word = told c.is_word.ensures c.if-not-is_word.false in
+    let n0 = number-is 64 c.args.a.now _ (told c.in_ok-cpu.was c.word_number.ensures) in
+    let n1 = number-is 32 c.args.b.now _ (told c.in_ok-code.was c.word32_number.ensures) in
+    let n2 = number-is 64 c.args.c.now _ (told c.in_ok-arg1.was c.word_number-2.ensures) in
+    let none = not-number 64 c.args.d.now (told c.in_err-arg2.was c.word_number-3.ensures) in
+    rw (c.from_residual-in_err-arg2.ensures, word, n0, n1, n2, none)
+
+pub returns : goal.returns
+unfolding event_of
+returns c =
+    let word = told c.is_word.ensures c.if-not-is_word.false in
+    let n0 = number-is 64 c.args.a.now _ (told c.in_ok-cpu.was c.word_number.ensures) in
+    let v0 = value-is 64 c.args.a.now _ (told c.in_ok-cpu.was c.word_number.ensures) in
+    let n1 = number-is 32 c.args.b.now _ (told c.in_ok-code.was c.word32_number.ensures) in
+    let v1 = value-is 32 c.args.b.now _ (told c.in_ok-code.was c.word32_number.ensures) in
+    let n2 = number-is 64 c.args.c.now _ (told c.in_ok-arg1.was c.word_number-2.ensures) in
+    let v2 = value-is 64 c.args.c.now _ (told c.in_ok-arg1.was c.word_number-2.ensures) in
+    let n3 = number-is 64 c.args.d.now _ (told c.in_ok-arg2.was c.word_number-3.ensures) in
+    let v3 = value-is 64 c.args.d.now _ (told c.in_ok-arg2.was c.word_number-3.ensures) in
+    rw (word, n0, n1, n2, n3) (cc)

@@ -1,14 +1,45 @@
--- `lines::four_words` meets its contract: it is the definition (`store_said`). Assumes nothing.
-use mathlib.Core.Path.{◌∙◌}
-use Rattle.lines.proofs.EventLaws.{passed, refused, store_said}
+-- `lines::four_words` meets its contract: each exit is decided by the tests before it. Assumes nothing.
+use Rattle.lines.specs.Lines.{event_of}
+use Rattle.lines.proofs.NumberLaws.{not-number, number-is, value-is}
+use Rattle.lines.proofs.EventLaws.{told}
 use Rattle.lines.proofs.four_words.Goals as goal
 
-pub returns-then-is_word-cpu : goal.returns-then-is_word-cpu
-returns-then-is_word-cpu c =
-    passed _ _ _ c.if-is_word-cpu.true
-    ∙ store_said _ _ _ _ _ _ _ _ c.is_word.ensures c.word_number-cpu.ensures c.word_number-word.ensures c.word32_number-value.ensures.value
+pub returns-then-not-is_word : goal.returns-then-not-is_word
+unfolding event_of
+returns-then-not-is_word c = rw (told c.is_word.ensures c.if-not-is_word.true)
 
-pub returns-else-is_word-cpu : goal.returns-else-is_word-cpu
-returns-else-is_word-cpu c =
-    refused _ _ _ c.if-is_word-cpu.false
-    ∙ store_said _ _ _ _ _ _ _ _ c.is_word.ensures c.word_number-cpu.ensures c.word_number-word.ensures c.word32_number-value.ensures.value
+pub returns-in_err-cpu : goal.returns-in_err-cpu
+unfolding event_of
+returns-in_err-cpu c =
+    let word = told c.is_word.ensures c.if-not-is_word.false in
+    let none = not-number 64 c.args.a.now (told c.in_err-cpu.was c.word_number.ensures) in
+    rw (c.from_residual.ensures, word, none)
+
+pub returns-in_err-word : goal.returns-in_err-word
+unfolding event_of
+returns-in_err-word c =
+    let word = told c.is_word.ensures c.if-not-is_word.false in
+    let n0 = number-is 64 c.args.a.now _ (told c.in_ok-cpu.was c.word_number.ensures) in
+    let none = not-number 64 c.args.b.now (told c.in_err-word.was c.word_number-2.ensures) in
+    rw (c.from_residual-in_err-word.ensures, word, n0, none)
+
+pub returns-in_err-value : goal.returns-in_err-value
+unfolding event_of
+returns-in_err-value c =
+    let word = told c.is_word.ensures c.if-not-is_word.false in
+    let n0 = number-is 64 c.args.a.now _ (told c.in_ok-cpu.was c.word_number.ensures) in
+    let n1 = number-is 64 c.args.b.now _ (told c.in_ok-word.was c.word_number-2.ensures) in
+    let none = not-number 32 c.args.c.now (told c.in_err-value.was c.word32_number.ensures) in
+    rw (c.from_residual-in_err-value.ensures, word, n0, n1, none)
+
+pub returns : goal.returns
+unfolding event_of
+returns c =
+    let word = told c.is_word.ensures c.if-not-is_word.false in
+    let n0 = number-is 64 c.args.a.now _ (told c.in_ok-cpu.was c.word_number.ensures) in
+    let v0 = value-is 64 c.args.a.now _ (told c.in_ok-cpu.was c.word_number.ensures) in
+    let n1 = number-is 64 c.args.b.now _ (told c.in_ok-word.was c.word_number-2.ensures) in
+    let v1 = value-is 64 c.args.b.now _ (told c.in_ok-word.was c.word_number-2.ensures) in
+    let n2 = number-is 32 c.args.c.now _ (told c.in_ok-value.was c.word32_number.ensures) in
+    let v2 = value-is 32 c.args.c.now _ (told c.in_ok-value.was c.word32_number.ensures) in
+    rw (word, n0, n1, n2) (cc)

@@ -1,10 +1,9 @@
--- `lines::one_word` meets its contract: it is the definition (`poll-said`). Assumes nothing.
-use mathlib.Core.Path.{◌∙◌}
-use Rattle.lines.proofs.EventLaws.{passed, refused, poll-said}
+-- `lines::one_word` meets its contract, by the test of the word. Assumes nothing.
+use Rattle.base.specs.Lists.{same}
+use Rattle.lines.specs.Lines.{word_poll, event_of}
+use Rattle.lines.proofs.EventLaws.{given-if}
 use Rattle.lines.proofs.one_word.Goals as goal
 
-pub returns-then-is_word : goal.returns-then-is_word
-returns-then-is_word c = passed _ _ _ c.if-is_word.true ∙ poll-said _ _ c.is_word.ensures
-
-pub returns-else-is_word : goal.returns-else-is_word
-returns-else-is_word c = refused _ _ _ c.if-is_word.false ∙ poll-said _ _ c.is_word.ensures
+pub returns : goal.returns
+unfolding event_of
+returns c = rw (c.then_some.ensures, c.is_word.ensures) (given-if (same c.args.w.now word_poll) _)

@@ -1,27 +1,19 @@
--- `lines::three_words` meets its contract: it is the definition (`create-exit-said`), and the test of a `create` line. Assumes nothing.
-use mathlib.Core.Path.{refl, sym, ◌∙◌}
-use Rattle.lines.proofs.EventLaws.{passed, refused, create-exit-said, create-test}
+-- `lines::three_words` meets its contract: the words are a `create` line where they say its event. Assumes nothing.
+use Rattle.std.proofs.Common.{◌∙◌, ap}
+use Rattle.lines.specs.Reading.{event_or}
+use Rattle.lines.proofs.EventLaws.{told, test-holds, event-is, test-fails, created, created-hex, no-create, no-create-hex}
 use Rattle.lines.proofs.three_words.Goals as goal
 
-pub returns-then-is_word-cpu : goal.returns-then-is_word-cpu
-returns-then-is_word-cpu c =
-    record {
-      event = passed _ _ _ c.if-is_word-cpu.true ∙ create-exit-said _ _ _ _ _ _ _ _ c.is_word.ensures c.word_number-cpu.ensures c.is_hex.ensures refl refl;
-      create = sym c.if-is_word-cpu.true ∙ create-test _ _ _ _ _ _ c.is_word.ensures c.word_number-cpu.ensures c.is_hex.ensures;
-    }
+pub returns-in-Some : goal.returns-in-Some
+returns-in-Some c =
+    let found = told c.create_words.ensures c.in-Some.is in
+    let create = test-holds _ _ _ found in
+    record { event = created _ _ _ create (event-is _ _ _ found); hex = created-hex _ _ _ create }
 
-pub returns-then-is_word-cpu-2 : goal.returns-then-is_word-cpu-2
-returns-then-is_word-cpu-2 c =
+pub returns-in-None : goal.returns-in-None
+returns-in-None c =
+    let create = test-fails _ _ (told c.create_words.ensures c.in-None.is) in
     record {
-      event = passed _ _ _ c.if-is_word-cpu-2.true ∙ refused _ _ _ c.if-is_word-cpu.false
-          ∙ create-exit-said _ _ _ _ _ _ _ _ c.is_word.ensures c.word_number-cpu.ensures c.is_hex.ensures c.is_word-2.ensures c.word_number-kind.ensures;
-      create = sym c.if-is_word-cpu.false ∙ create-test _ _ _ _ _ _ c.is_word.ensures c.word_number-cpu.ensures c.is_hex.ensures;
-    }
-
-pub returns-else-is_word-cpu-2 : goal.returns-else-is_word-cpu-2
-returns-else-is_word-cpu-2 c =
-    record {
-      event = refused _ _ _ c.if-is_word-cpu-2.false ∙ refused _ _ _ c.if-is_word-cpu.false
-          ∙ create-exit-said _ _ _ _ _ _ _ _ c.is_word.ensures c.word_number-cpu.ensures c.is_hex.ensures c.is_word-2.ensures c.word_number-kind.ensures;
-      create = sym c.if-is_word-cpu.false ∙ create-test _ _ _ _ _ _ c.is_word.ensures c.word_number-cpu.ensures c.is_hex.ensures;
+      event = no-create _ _ _ create (c.plain.ensures.event ∙ ap event_or c.exit_words.ensures);
+      hex = no-create-hex _ _ _ create c.plain.ensures.hex;
     }

@@ -1,10 +1,24 @@
--- `lines::two_words` meets its contract: it is the definition (`fault-said`). Assumes nothing.
-use mathlib.Core.Path.{◌∙◌}
-use Rattle.lines.proofs.EventLaws.{passed, refused, fault-said}
+-- `lines::two_words` meets its contract: each exit is decided by the tests before it. Assumes nothing.
+use Rattle.lines.specs.Lines.{event_of}
+use Rattle.lines.proofs.NumberLaws.{not-number, number-is, value-is}
+use Rattle.lines.proofs.EventLaws.{told}
 use Rattle.lines.proofs.two_words.Goals as goal
 
-pub returns-then-is_word-cpu : goal.returns-then-is_word-cpu
-returns-then-is_word-cpu c = passed _ _ _ c.if-is_word-cpu.true ∙ fault-said _ _ _ _ c.is_word.ensures c.word_number-cpu.ensures
+pub returns-then-not-is_word : goal.returns-then-not-is_word
+unfolding event_of
+returns-then-not-is_word c = rw (told c.is_word.ensures c.if-not-is_word.true)
 
-pub returns-else-is_word-cpu : goal.returns-else-is_word-cpu
-returns-else-is_word-cpu c = refused _ _ _ c.if-is_word-cpu.false ∙ fault-said _ _ _ _ c.is_word.ensures c.word_number-cpu.ensures
+pub returns-in_err-cpu : goal.returns-in_err-cpu
+unfolding event_of
+returns-in_err-cpu c =
+    let word = told c.is_word.ensures c.if-not-is_word.false in
+    let none = not-number 64 c.args.a.now (told c.in_err-cpu.was c.word_number.ensures) in
+    rw (c.from_residual.ensures, word, none)
+
+pub returns : goal.returns
+unfolding event_of
+returns c =
+    let word = told c.is_word.ensures c.if-not-is_word.false in
+    let n0 = number-is 64 c.args.a.now _ (told c.in_ok-cpu.was c.word_number.ensures) in
+    let v0 = value-is 64 c.args.a.now _ (told c.in_ok-cpu.was c.word_number.ensures) in
+    rw (word, n0) (cc)

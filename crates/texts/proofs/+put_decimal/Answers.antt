@@ -9,9 +9,6 @@ use Rattle.texts.proofs.+put_decimal.Goals as goal
 pub returns-then-n-lt10 : goal.returns-then-n-lt10
 returns-then-n-lt10 t c = put-digit _ _ _ c.if-n-lt10.true
 
-pub shape_of-out-then-n-lt10 : goal.shape_of-out-then-n-lt10
-shape_of-out-then-n-lt10 t c = put-length (put-digit _ _ _ c.if-n-lt10.true)
-
 pub bounds-out-end : goal.bounds-out-end
 bounds-out-end t c =
     let room : length (decimal (c.args.n / 10)) < 20 = tenth-short c.args.n c.if-n-lt10.false c.ranges.n.fits in
@@ -24,6 +21,3 @@ overflow_add-result-2 t c =
 
 pub returns : goal.returns
 returns t c = put-digits _ c.if-n-lt10.false c.ranges.n.fits c.put_decimal-end.ensures
-
-pub shape_of-out : goal.shape_of-out
-shape_of-out t c = put-length (put-digits _ c.if-n-lt10.false c.ranges.n.fits c.put_decimal-end.ensures)

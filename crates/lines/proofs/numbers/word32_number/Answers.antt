@@ -1,10 +1,11 @@
--- `lines::numbers::word32_number` meets its contract: a number below 2^64 is one below 2^32 where its value is. Assumes nothing.
-use native.Mathlib.Omega.{arith}
-use Rattle.lines.proofs.NumberLaws.{number-32, no-number-32}
+-- A number below 2^64 is one below 2^32 where its value is. Assumes nothing.
+use Rattle.std.proofs.Common.{sym, ◌∙◌}
+use Rattle.lines.proofs.NumberLaws.{none-32, narrowed}
 use Rattle.lines.proofs.numbers.word32_number.Goals as goal
 
-pub returns-then-value-gt4294967295 : goal.returns-then-value-gt4294967295
-returns-then-value-gt4294967295 c = record { value = no-number-32 _ _ c.word_number-n.ensures (omega arith); value_bound = omega arith }
+pub returns-in_err-word_number : goal.returns-in_err-word_number
+returns-in_err-word_number c = c.from_residual.ensures ∙ none-32 c.args.w.now (sym c.in_err-word_number.was ∙ c.word_number.ensures)
 
 pub returns : goal.returns
-returns c = record { value = number-32 _ _ c.word_number-n.ensures (omega arith); value_bound = omega arith }
+returns c =
+    c.ok.ensures.value ∙ narrowed c.args.w.now c.in_ok-word_number.field-0 _ (sym c.in_ok-word_number.was ∙ c.word_number.ensures) c.try_from.ensures

@@ -1,6 +1,7 @@
--- `lines::words::is_word` meets its contract: `check::same` is true exactly where the two lists are equal. Assumes nothing.
-use Rattle.base.proofs.Lists.{same_flag}
+-- Two words are equal exactly where the lists are. Assumes nothing.
+use Rattle.std.proofs.Common.{◌∙◌}
+use Rattle.lines.proofs.WordLaws.{same-pointwise}
 use Rattle.lines.proofs.words.is_word.Goals as goal
 
 pub returns : goal.returns
-returns c = same_flag _ _ _ c.same.ensures.0 c.same.ensures.1
+returns c = c.eq.ensures ∙ same-pointwise c.args.w.now c.args.word.now

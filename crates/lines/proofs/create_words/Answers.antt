@@ -1,0 +1,24 @@
+-- `lines::create_words` meets its contract: each exit is decided by the tests before it. Assumes nothing.
+use Rattle.lines.specs.Lines.{is_hex, is_create}
+use Rattle.lines.proofs.NumberLaws.{not-number, number-is, value-is}
+use Rattle.lines.proofs.EventLaws.{told, some-if}
+use Rattle.lines.proofs.create_words.Goals as goal
+
+pub returns-then-not-is_word : goal.returns-then-not-is_word
+unfolding is_create
+returns-then-not-is_word c = rw (told c.is_word.ensures c.if-not-is_word.true)
+
+pub returns-in_err-cpu : goal.returns-in_err-cpu
+unfolding is_create
+returns-in_err-cpu c =
+    let word = told c.is_word.ensures c.if-not-is_word.false in
+    let none = not-number 64 c.args.a.now (told c.in_err-cpu.was c.word_number.ensures) in
+    rw (c.from_residual.ensures, word, none)
+
+pub returns : goal.returns
+unfolding is_create
+returns c =
+    let word = told c.is_word.ensures c.if-not-is_word.false in
+    let n0 = number-is 64 c.args.a.now _ (told c.in_ok-cpu.was c.word_number.ensures) in
+    let v0 = value-is 64 c.args.a.now _ (told c.in_ok-cpu.was c.word_number.ensures) in
+    rw (c.then_some.ensures, c.is_hex.ensures, v0, word, n0) (some-if (is_hex c.args.b.now) _)
