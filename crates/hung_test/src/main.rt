@@ -8,20 +8,20 @@ use std::fs;
 use test_support::{console, text};
 
 fn main(rt: HostRuntime) {
-    let mut record = [0u8; 4096];
+    let mut record = [0; 4096];
     // The file stays open while the log is read.
     let mut opened = fs::open(&rt, "system.tss");
     let n = match &mut opened {
         Ok(file) => console::read_full(file, &mut record),
         Err(_) => 0,
     };
-    let booted = machine_state::boot(text::first(&record, n));
-    let mut out = console::large_buffer();
-    let k = texts::put_boot(booted.code, &mut out);
-    console::write_all(&rt, text::first(&out, k));
-    let machine = booted.machine;
-    let mut log = console::large_buffer();
+    let booted = machine_state::boot(record.get(..n).unwrap_or(&record));
+    let mut out = console::room::<65536>();
+    let told = texts::put_boot(booted.code, &mut out);
+    console::print(&rt, text::text_of(&out, told));
+    let mut log = console::room::<65536>();
     let len = console::read_full(&mut rt.stdin(), &mut log);
-    let ran = replay_log::run(replay_log::start(machine), text::first(&log, len), &mut out);
-    console::write_all(&rt, text::first(&out, ran.written));
+    let start = replay_log::start(booted.machine);
+    let ran = replay_log::run(start, log.get(..len).unwrap_or(&log), &mut out);
+    console::print(&rt, text::text_of(&out, ran.written));
 }

@@ -1,148 +1,142 @@
 // The machine of a log, and the ways to run a log over it.
-use crate::show;
+use crate::show::{Block, Kind};
 use lines::MAX_RECORD;
 use machine_state::Machine;
-use test_support::{cases, names, text};
+use test_support::{cases, text};
+use texts::MAX_TEXT;
 
-// A machine, and how many bytes of answers were written.
+// A machine, and the first `told` bytes of an answer.
 #[derive(Clone, Copy)]
-pub struct Made {
+pub(crate) struct Made {
     pub machine: Machine,
-    pub n: usize,
+    answer: [u8; MAX_TEXT],
+    told: usize,
 }
 
-// A machine before its boot.
-pub(crate) fn unbooted() -> Machine {
-    let refused = machine_state::boot(b"");
-    refused.machine
+impl Made {
+    // A machine that no line has answered for.
+    fn silent(machine: Machine) -> Self {
+        Made {
+            machine,
+            answer: [0; MAX_TEXT],
+            told: 0,
+        }
+    }
+
+    // The answer with its line feed.
+    fn written(&self) -> &str {
+        text::text_of(&self.answer, self.told)
+    }
+
+    pub(crate) fn answer(&self) -> &str {
+        text::first_line(self.written())
+    }
 }
 
 // The machine that a block's first line makes of the one before, and its answer.
-pub(crate) fn begin(m: Machine, script: &[u8], line: &[u8], out: &mut [u8]) -> Made {
-    match show::kind_of(line) {
-        1 => Made {
-            machine: with_counter(m, line),
-            n: 0,
-        },
-        2 => polls(m, line, out),
-        3 => boot(script, line, out),
-        _ => Made { machine: m, n: 0 },
+pub(crate) fn begin(m: &Machine, block: &Block) -> Made {
+    match Kind::of(block.head) {
+        Kind::Counter => Made::silent(with_counter(m, block.head)),
+        Kind::Times => polls(m, block.head),
+        Kind::Boot => boot(block),
+        _ => Made::silent(*m),
     }
 }
 
 // The machine with a raw value in an exit counter, by a line `counter CPU COUNTER VALUE`.
-fn with_counter(mut m: Machine, line: &[u8]) -> Machine {
-    let cpu = text::number_at(line, 1);
-    let counter = text::number_at(line, 2);
-    let value = text::number_at(line, 3);
-    let k = (cpu.value % 64) as usize;
-    let i = (counter.value % 6) as usize;
-    let mut c = m.cpus[k];
-    c.counters[i] = (value.value % 0x1_0000_0000) as u32;
-    m.cpus[k] = c;
-    m
+fn with_counter(m: &Machine, line: &str) -> Machine {
+    let number = |k: usize| text::number_of(text::word(line, k)).value;
+    let mut after = *m;
+    let cpu = (number(1) % 64) as usize;
+    let counter = (number(2) % 6) as usize;
+    after.cpus[cpu].counters[counter] = (number(3) % 0x1_0000_0000) as u32;
+    after
 }
 
 // Boots from a record of the script. A record that cannot be read has no answer.
-fn boot(script: &[u8], line: &[u8], out: &mut [u8]) -> Made {
-    let name = text::rest(text::word(cases::asked(line), 1), 1);
-    let named = names::record_named(script, name);
-    let r = named.record;
-    let b = r.b;
-    let booted = machine_state::boot(text::first(&b, r.n));
-    let machine = booted.machine;
-    let n = texts::put_boot(booted.code, out);
-    if named.ok {
-        Made { machine, n }
-    } else {
-        Made { machine, n: 0 }
-    }
-}
-
-// One line of a log by the entry for the shim: the machine after it, and its answer.
-fn step_line(m: Machine, line: &[u8], out: &mut [u8]) -> Made {
-    let mut record = [0u8; MAX_RECORD];
-    let read = lines::read_line(line, &mut record);
-    let event = read.event;
-    let stepped = manager::step(m, event, text::first(&record, read.len));
-    let answer = stepped.answer;
-    let machine = stepped.machine;
-    Made {
-        machine,
-        n: texts::put_answer(answer, out),
-    }
-}
-
-// Polls in a row, by a line `times N poll > ANSWER`: the machine after them and their answer, up to
-// the first that is not the one that is wanted.
-fn polls(m: Machine, line: &[u8], out: &mut [u8]) -> Made {
-    let times = text::number_at(line, 1);
-    let mut made = Made { machine: m, n: 0 };
-    let mut left = times.value;
-    while 0 < left {
-        let machine = made.machine;
-        made = step_line(machine, b"poll", out);
-        if !check::same(
-            text::but_last(text::first(out, made.n)),
-            cases::wanted(line),
-        ) {
-            return made;
-        }
-        left -= 1;
+fn boot(block: &Block) -> Made {
+    let word = text::word(cases::asked(block.head), 1);
+    let named = block.script.record_at(word);
+    let booted = machine_state::boot(named.record.bytes());
+    let mut made = Made::silent(booted.machine);
+    if named.whole {
+        made.told = texts::put_boot(booted.code, &mut made.answer);
     }
     made
 }
 
-// Whether what was written is the next of the answers.
-fn as_told(answers: &[u8], told: usize, written: &[u8]) -> bool {
-    check::same(
-        text::first(text::rest(answers, told), written.len()),
-        written,
-    )
+// One line of a log by the entry for the shim: the machine after it, and its answer.
+fn step_line(m: &Machine, line: &[u8]) -> Made {
+    let mut record = [0; MAX_RECORD];
+    let read = lines::read_line(line, &mut record);
+    let brought = record.get(..read.len).unwrap_or(&record);
+    let stepped = manager::step(*m, read.event, brought);
+    let mut made = Made::silent(stepped.machine);
+    made.told = texts::put_answer(stepped.answer, &mut made.answer);
+    made
 }
 
-// Whether every line of a log gets these answers by the entry for the shim.
-pub(crate) fn by_steps(start: Machine, log: &[u8], answers: &[u8]) -> bool {
-    let mut m = start;
-    let mut at = 0;
-    let mut told = 0;
-    let mut same = true;
-    let mut turns = log.len();
-    while 0 < turns {
-        if log.len() <= at {
-            return same & (told == answers.len());
+// Polls in a row, by a line `times N poll > ANSWER`: the machine after them and their answer, up to
+// the first that is not the one that is wanted.
+fn polls(m: &Machine, line: &str) -> Made {
+    let mut made = Made::silent(*m);
+    for _ in 0..text::number_of(text::word(line, 1)).value {
+        made = step_line(&made.machine, b"poll");
+        if made.answer() != cases::wanted(line) {
+            return made;
         }
-        let mut out = [0u8; 32];
-        let made = step_line(m, text::line_at(log, at), &mut out);
-        same = same & as_told(answers, told, text::first(&out, made.n));
-        told = text::plus(told, made.n);
-        at = text::next_line(log, at);
-        m = made.machine;
-        turns -= 1;
     }
-    same & (told == answers.len())
+    made
 }
 
-// Whether a log that comes in pieces of `size` bytes gets these answers.
-pub(crate) fn in_pieces(start: Machine, log: &[u8], size: usize, answers: &[u8]) -> bool {
-    let mut run = replay_log::start(start);
-    let mut at = 0;
-    let mut told = 0;
-    let mut same = true;
-    let mut turns = log.len();
-    while 0 < turns {
-        if log.len() <= at {
-            break;
+// A log that was run: the machine before it, its bytes, and the answers to it.
+#[derive(Clone, Copy)]
+pub(crate) struct Log<'a> {
+    pub start: &'a Machine,
+    pub bytes: &'a [u8],
+    pub answers: &'a [u8],
+}
+
+impl<'a> Log<'a> {
+    // Without its last line feed.
+    pub(crate) fn unended(&self) -> Log<'a> {
+        Log {
+            start: self.start,
+            bytes: self.bytes.strip_suffix(b"\n").unwrap_or(self.bytes),
+            answers: self.answers,
         }
-        let mut out = [0u8; 4096];
-        let ran = replay_log::run(run, text::first(text::rest(log, at), size), &mut out);
-        same = same & as_told(answers, told, text::first(&out, ran.written));
-        told = text::plus(told, ran.written);
-        at = text::plus(at, size);
-        run = ran.replay;
-        turns -= 1;
     }
-    let mut out = [0u8; 64];
-    let n = replay_log::finish(run, &mut out);
-    same & as_told(answers, told, text::first(&out, n)) & (text::plus(told, n) == answers.len())
+
+    // Whether every line gets these answers by the entry for the shim.
+    pub(crate) fn by_steps(&self) -> bool {
+        let mut machine = *self.start;
+        let mut left = self.answers;
+        for line in self.bytes.split_inclusive(|b| *b == b'\n') {
+            let made = step_line(&machine, line.strip_suffix(b"\n").unwrap_or(line));
+            let Some(rest) = left.strip_prefix(made.written().as_bytes()) else {
+                return false;
+            };
+            left = rest;
+            machine = made.machine;
+        }
+        left.is_empty()
+    }
+
+    // Whether the log gets these answers where it comes in pieces of `size` bytes.
+    pub(crate) fn in_pieces(&self, size: usize) -> bool {
+        let mut out = [0; 4096];
+        let mut run = replay_log::start(*self.start);
+        let mut left = self.answers;
+        for piece in self.bytes.chunks(size.max(1)) {
+            let ran = replay_log::run(run, piece, &mut out);
+            let written = text::text_of(&out, ran.written);
+            let Some(rest) = left.strip_prefix(written.as_bytes()) else {
+                return false;
+            };
+            left = rest;
+            run = ran.replay;
+        }
+        let n = replay_log::finish(run, &mut out);
+        left == text::text_of(&out, n).as_bytes()
+    }
 }

@@ -10,121 +10,83 @@
 mod logs;
 mod show;
 
+use arrayvec::ArrayVec;
+use logs::Log;
 use machine_state::Machine;
+use show::Block;
 use test_support::cases::Tally;
-use test_support::{cases, console, text};
+use test_support::names::Script;
+use test_support::{console, text};
 
-// How far a script has come: the machine that the last block left, the cases, and the next block.
+// Room for the bytes of a block's log, and for the answers to it.
+const BYTES: usize = 65536;
+
+const ANSWERS: usize = 16384;
+
+// How far a script has come: the machine that the last block left, and the cases.
 #[derive(Clone, Copy)]
 struct Progress {
     machine: Machine,
     tally: Tally,
-    at: usize,
-}
-
-// Room for a script.
-fn room() -> [u8; 262144] {
-    [0; 262144]
 }
 
 fn main(rt: HostRuntime) {
-    let mut s = room();
-    let n = console::read_full(&mut rt.stdin(), &mut s);
-    cases::total(&rt, blocks(&rt, &s[..n]));
+    let mut room = console::room::<262144>();
+    let n = console::read_full(&mut rt.stdin(), &mut room);
+    console::print_line(&rt, blocks(&rt, Script(text::text_of(&room, n))));
 }
 
 // Every block of the script.
-fn blocks(rt: &impl Print, script: &[u8]) -> Tally {
-    let mut p = Progress {
-        machine: logs::unbooted(),
-        tally: cases::no_cases(),
-        at: 0,
+fn blocks(rt: &impl Print, script: Script) -> Tally {
+    let mut progress = Progress {
+        machine: machine_state::boot(b"").machine,
+        tally: Tally::new(),
     };
-    let mut turns = script.len();
-    while 0 < turns {
-        if script.len() <= p.at {
-            return p.tally;
+    for (i, head) in script.0.lines().enumerate() {
+        if (i == 0) | show::begins_log(head) {
+            progress.block(rt, &Block::at(script, i, head));
         }
-        p = block(rt, p, script);
-        turns -= 1;
     }
-    p.tally
+    progress.tally
 }
 
-// One block: its first line makes a machine, and its log is written out and run.
-fn block(rt: &impl Print, p: Progress, script: &[u8]) -> Progress {
-    let mut head = [0u8; 32];
-    let m = p.machine;
-    let t = p.tally;
-    let block = show::block_at(script, p.at);
-    let begun = logs::begin(m, script, text::line_at(block, 0), &mut head);
-    let answer = text::but_last(text::first(&head, begun.n));
-    let start = begun.machine;
-    let mut next = run_log(rt, start, t, script, block, answer);
-    next.at = text::plus(p.at, block.len());
-    next
-}
-
-// Runs the log of a block, and shows each of its lines with its answer.
-fn run_log(
-    rt: &impl Print,
-    start: Machine,
-    t: Tally,
-    script: &[u8],
-    block: &[u8],
-    head: &[u8],
-) -> Progress {
-    let mut bytes = [0u8; 65536];
-    let mut out = [0u8; 16384];
-    let e = show::gather(script, block, &mut bytes);
-    let log = text::first(&bytes, e.n);
-    let ran = replay_log::run(replay_log::start(start), log, &mut out);
-    let answers = text::first(&out, ran.written);
-    let shown = show::show_all(rt, t, script, block, head, answers);
-    let read = show::checked(
-        rt,
-        shown,
-        e.ok,
-        block,
-        b"a name or an escape cannot be read",
-    );
-    let run = ran.replay;
-    let machine = run.machine;
-    Progress {
-        machine,
-        tally: again(rt, start, read, block, log, answers),
-        at: 0,
+impl Progress {
+    // One block: its first line makes a machine, and its log is written out and run.
+    fn block(&mut self, rt: &impl Print, block: &Block) {
+        let begun = logs::begin(&self.machine, block);
+        let mut bytes = ArrayVec::<u8, BYTES>::new();
+        let read = block.gather(&mut bytes);
+        let mut out = [0; ANSWERS];
+        let ran = replay_log::run(replay_log::start(begun.machine), bytes.as_slice(), &mut out);
+        let answers = text::text_of(&out, ran.written);
+        let answer = begun.answer();
+        block.show(rt, &mut self.tally, answer, answers);
+        let why = "a name or an escape cannot be read";
+        self.check(rt, block, read, why);
+        let log = Log {
+            start: &begun.machine,
+            bytes: bytes.as_slice(),
+            answers: answers.as_bytes(),
+        };
+        self.again(rt, block, &log);
+        self.machine = ran.replay.machine;
     }
-}
 
-// The log again, by the entry for the shim, cut into pieces and without its last line feed: each time
-// the same text.
-fn again(
-    rt: &impl Print,
-    start: Machine,
-    t: Tally,
-    block: &[u8],
-    log: &[u8],
-    answers: &[u8],
-) -> Tally {
-    let shim = logs::by_steps(start, log, answers);
-    let one = logs::in_pieces(start, log, 1, answers);
-    let seven = logs::in_pieces(start, log, 7, answers);
-    let many = logs::in_pieces(start, log, 64, answers);
-    let ended = logs::in_pieces(start, text::but_last(log), 64, answers);
-    let t = show::checked(
-        rt,
-        t,
-        shim,
-        block,
-        b"other answers by the entry for the shim",
-    );
-    let t = show::checked(rt, t, one & seven & many, block, b"other answers in pieces");
-    show::checked(
-        rt,
-        t,
-        ended,
-        block,
-        b"other answers without the last line feed",
-    )
+    // The log again, by the entry for the shim, cut into pieces and without its last line feed: each time
+    // the same text.
+    fn again(&mut self, rt: &impl Print, block: &Block, log: &Log) {
+        let shim = log.by_steps();
+        self.check(rt, block, shim, "other answers by the entry for the shim");
+        let pieces = [1, 7, 64].iter().all(|size| log.in_pieces(*size));
+        self.check(rt, block, pieces, "other answers in pieces");
+        let ended = log.unended().in_pieces(64);
+        self.check(rt, block, ended, "other answers without the last line feed");
+    }
+
+    // Says of a block what is wrong with its log as a whole, unless `ok`.
+    fn check(&mut self, rt: &impl Print, block: &Block, ok: bool, why: &str) {
+        if !ok {
+            self.tally.unread(rt, block.head, why);
+        }
+    }
 }

@@ -1,159 +1,98 @@
 // The lines of a script: which are of a log, and how each is shown with its answer.
+use arrayvec::ArrayVec;
+use std::io::Write;
 use test_support::cases::Tally;
-use test_support::expand::Expanded;
-use test_support::{cases, expand, text};
+use test_support::names::Script;
+use test_support::{cases, console, expand, text};
 
-// What a line of a script is: 0 a record, 1 a counter, 2 times, 3 a boot, 4 a case, 5 a remark, and 6
-// what cannot be read. With 1, 2 and 3 a log begins.
-pub(crate) fn kind_of(line: &[u8]) -> usize {
-    let begin = text::byte(line, 0);
-    if (begin == 0) | (begin == b'#') {
-        return 5;
-    }
-    let k = text::index_of(b"record counter times", text::word(line, 0));
-    if k < 3 {
-        return k;
-    }
-    if text::starts(line, b"boot @") {
-        return 3;
-    }
-    if text::find(line, b" > ") < line.len() {
-        4
-    } else {
-        6
-    }
+// What a line of a script is. With a counter, times and a boot a log begins; a case is a line of it.
+#[derive(Clone, Copy, PartialEq, Eq)]
+pub(crate) enum Kind {
+    Record,
+    Counter,
+    Times,
+    Boot,
+    Case,
+    Remark,
+    Unread,
 }
 
-// The block that begins at a place, with its line feeds: up to the next line that begins a log.
-pub(crate) fn block_at(script: &[u8], at: usize) -> &[u8] {
-    let block = text::rest(script, at);
-    let mut end = text::next_line(block, 0);
-    let mut turns = block.len();
-    while 0 < turns {
-        let kind = kind_of(text::line_at(block, end));
-        if (0 < kind) & (kind < 4) {
-            return text::first(block, end);
+impl Kind {
+    pub(crate) fn of(line: &str) -> Self {
+        if text::is_remark(line) {
+            return Kind::Remark;
         }
-        end = text::next_line(block, end);
-        turns -= 1;
-    }
-    block
-}
-
-// Writes the log of a block: the bytes of each case and a line feed.
-pub(crate) fn gather(script: &[u8], block: &[u8], log: &mut [u8]) -> Expanded {
-    let mut e = expand::nothing();
-    let mut at = 0;
-    let mut turns = block.len();
-    while 0 < turns {
-        if block.len() <= at {
-            return e;
+        match text::first_word(line).0 {
+            "record" => Kind::Record,
+            "counter" => Kind::Counter,
+            "times" => Kind::Times,
+            _ if line.starts_with("boot @") => Kind::Boot,
+            _ if line.contains(" > ") => Kind::Case,
+            _ => Kind::Unread,
         }
-        e = put_case(script, text::line_at(block, at), e, log);
-        at = text::next_line(block, at);
-        turns -= 1;
-    }
-    e
-}
-
-// Writes the bytes of a case behind the others of a log.
-fn put_case(script: &[u8], line: &[u8], e: Expanded, log: &mut [u8]) -> Expanded {
-    if kind_of(line) != 4 {
-        return e;
-    }
-    let mut next = expand::expand(script, cases::asked(line), e, log);
-    next.n = text::put(log, next.n, b'\n');
-    next
-}
-
-fn show_remark(rt: &impl Print, t: Tally, line: &[u8]) -> Tally {
-    cases::remark(rt, line);
-    t
-}
-
-// One line of a block. `head` is the answer to the block's first line, and `answer` the next one of
-// its log.
-fn show_line(
-    rt: &impl Print,
-    t: Tally,
-    script: &[u8],
-    line: &[u8],
-    head: &[u8],
-    answer: &[u8],
-) -> Tally {
-    match kind_of(line) {
-        0 => cases::record_line(rt, t, script, line),
-        2 | 3 => cases::answered(rt, t, line, head),
-        4 => cases::answered(rt, t, line, answer),
-        6 => cases::unread(rt, t, line, b"this line has no answer"),
-        _ => show_remark(rt, t, line),
     }
 }
 
-// How far a block has been shown: the place in it, and in the answers to its log.
+// Whether a log begins with a line.
+pub(crate) fn begins_log(line: &str) -> bool {
+    matches!(Kind::of(line), Kind::Counter | Kind::Times | Kind::Boot)
+}
+
+// A block of a script: its first line, and how many lines stand before that, and are in the block.
 #[derive(Clone, Copy)]
-struct Shown {
-    tally: Tally,
-    at: usize,
-    told: usize,
+pub(crate) struct Block<'a> {
+    pub script: Script<'a>,
+    pub head: &'a str,
+    before: usize,
+    count: usize,
 }
 
-// One line more of a block.
-fn show_next(
-    rt: &impl Print,
-    s: Shown,
-    script: &[u8],
-    block: &[u8],
-    head: &[u8],
-    answers: &[u8],
-) -> Shown {
-    let t = s.tally;
-    let line = text::line_at(block, s.at);
-    let tally = show_line(rt, t, script, line, head, text::line_at(answers, s.told));
-    let at = text::next_line(block, s.at);
-    if kind_of(line) != 4 {
-        return Shown {
-            tally,
-            at,
-            told: s.told,
-        };
-    }
-    Shown {
-        tally,
-        at,
-        told: text::next_line(answers, s.told),
-    }
-}
-
-// Every line of a block.
-pub(crate) fn show_all(
-    rt: &impl Print,
-    t: Tally,
-    script: &[u8],
-    block: &[u8],
-    head: &[u8],
-    answers: &[u8],
-) -> Tally {
-    let mut s = Shown {
-        tally: t,
-        at: 0,
-        told: 0,
-    };
-    let mut turns = block.len();
-    while 0 < turns {
-        if block.len() <= s.at {
-            return s.tally;
+impl<'a> Block<'a> {
+    // The block that begins with the line `head`, before which so many stand.
+    pub(crate) fn at(script: Script<'a>, before: usize, head: &'a str) -> Self {
+        let after = before.saturating_add(1);
+        let more = script
+            .0
+            .lines()
+            .skip(after)
+            .take_while(|line| !begins_log(line))
+            .count();
+        Block {
+            script,
+            head,
+            before,
+            count: more.saturating_add(1),
         }
-        s = show_next(rt, s, script, block, head, answers);
-        turns -= 1;
     }
-    s.tally
-}
 
-// Says of a block what is wrong with its log as a whole, unless `ok`.
-pub(crate) fn checked(rt: &impl Print, t: Tally, ok: bool, block: &[u8], why: &[u8]) -> Tally {
-    if ok {
-        return t;
+    // Writes the log of the block: the bytes of each case and a line feed. Gives whether all of them
+    // could be read.
+    pub(crate) fn gather<const N: usize>(&self, log: &mut ArrayVec<u8, N>) -> bool {
+        let mut all = true;
+        for line in self.script.0.lines().skip(self.before).take(self.count) {
+            if Kind::of(line) == Kind::Case {
+                all &= expand::expand(log, &self.script, cases::asked(line));
+                let _ = log.write(b"\n");
+            }
+        }
+        all
     }
-    cases::unread(rt, t, text::line_at(block, 0), why)
+
+    // Shows each line with its answer: `answer` is that to the first line, and `answers` has those to
+    // the log.
+    pub(crate) fn show(&self, rt: &impl Print, tally: &mut Tally, answer: &str, answers: &str) {
+        let mut told = answers.lines();
+        for line in self.script.0.lines().skip(self.before).take(self.count) {
+            match Kind::of(line) {
+                Kind::Record => tally.record_line(rt, &self.script, line),
+                Kind::Counter | Kind::Remark => console::print_line(rt, line),
+                Kind::Times | Kind::Boot => tally.answered(rt, line, answer),
+                Kind::Case => match told.next() {
+                    Some(answer) => tally.answered(rt, line, answer),
+                    None => tally.answered(rt, line, ""),
+                },
+                Kind::Unread => tally.unread(rt, line, "this line has no answer"),
+            }
+        }
+    }
 }

@@ -22,162 +22,93 @@
 mod questions;
 mod show;
 
+use arrayvec::ArrayVec;
 use lines::{MAX_LINE, MAX_RECORD};
 use machine_state::{Event, Machine};
+use questions::Question;
 use test_support::cases::Tally;
-use test_support::{cases, console, expand, names, text};
+use test_support::names::Script;
+use test_support::{cases, console, expand, text};
+use texts::MAX_TEXT;
 
 // How far a script has come.
 #[derive(Clone, Copy)]
 struct Progress {
     machine: Machine,
     tally: Tally,
-    at: usize,
 }
 
 fn main(rt: HostRuntime) {
-    let mut script = console::large_buffer();
-    let n = console::read_full(&mut rt.stdin(), &mut script);
-    cases::total(&rt, run(&rt, &script[..n]));
-}
-
-// A machine before its boot.
-fn unbooted() -> Machine {
-    let refused = machine_state::boot(b"");
-    refused.machine
+    let mut room = console::room::<65536>();
+    let n = console::read_full(&mut rt.stdin(), &mut room);
+    console::print_line(&rt, run(&rt, Script(text::text_of(&room, n))));
 }
 
 // Every line of the script.
-fn run(rt: &impl Print, s: &[u8]) -> Tally {
-    let mut p = Progress {
-        machine: unbooted(),
-        tally: cases::no_cases(),
-        at: 0,
+fn run(rt: &impl Print, script: Script) -> Tally {
+    let mut progress = Progress {
+        machine: machine_state::boot(b"").machine,
+        tally: Tally::new(),
     };
-    let mut turns = s.len();
-    while 0 < turns {
-        if s.len() <= p.at {
-            return p.tally;
+    for line in script.0.lines() {
+        progress.take(rt, &script, line);
+    }
+    progress.tally
+}
+
+impl Progress {
+    // One line: a remark, a record, a boot, a question or an event.
+    fn take(&mut self, rt: &impl Print, script: &Script, line: &str) {
+        if text::is_remark(line) {
+            console::print_line(rt, line);
+        } else if line.starts_with("record ") {
+            self.tally.record_line(rt, script, line);
+        } else if line.starts_with("boot @") {
+            self.boot(rt, script, line);
+        } else if questions::is_question(text::word(line, 0)) {
+            self.ask(rt, line);
+        } else {
+            self.event(rt, script, line);
         }
-        p = next_line(rt, p, s);
-        turns -= 1;
     }
-    p.tally
-}
 
-// One line more.
-fn next_line(rt: &impl Print, p: Progress, script: &[u8]) -> Progress {
-    let m = p.machine;
-    let t = p.tally;
-    let s = text::line_at(script, p.at);
-    let done = line(rt, m, t, script, s);
-    let machine = done.machine;
-    let tally = done.tally;
-    Progress {
-        machine,
-        tally,
-        at: text::plus(text::plus(p.at, s.len()), 1),
+    // A boot, which is an error where not all of the record can be read.
+    fn boot(&mut self, rt: &impl Print, script: &Script, line: &str) {
+        let named = script.record_at(text::word(cases::asked(line), 1));
+        let booted = machine_state::boot(named.record.bytes());
+        self.machine = booted.machine;
+        let mut out = [0; MAX_TEXT];
+        let n = texts::put_boot(booted.code, &mut out);
+        let told = text::first_line(text::text_of(&out, n));
+        let why = "this record cannot be read";
+        self.tally.shown(rt, line, told, named.whole, why);
     }
-}
 
-// What a line leaves.
-#[derive(Clone, Copy)]
-struct Done {
-    machine: Machine,
-    tally: Tally,
-}
-
-// One line: a remark, a record, a boot, a question or an event.
-fn line(rt: &impl Print, m: Machine, t: Tally, script: &[u8], s: &[u8]) -> Done {
-    if (s.len() == 0) | text::starts(s, b"#") {
-        cases::remark(rt, s);
-        return Done {
-            machine: m,
-            tally: t,
-        };
+    // A question, which changes nothing.
+    fn ask(&mut self, rt: &impl Print, line: &str) {
+        match Question::read(cases::asked(line)) {
+            Some(question) => {
+                let reply = question.reply(&self.machine);
+                self.tally.answered(rt, line, reply);
+            }
+            None => self.tally.unread(rt, line, "this question cannot be read"),
+        }
     }
-    if text::starts(s, b"record ") {
-        let tally = cases::record_line(rt, t, script, s);
-        return Done { machine: m, tally };
-    }
-    if text::starts(s, b"boot @") {
-        return boot(rt, t, script, s);
-    }
-    if questions::is_question(s) {
-        let tally = question(rt, m, t, s);
-        return Done { machine: m, tally };
-    }
-    event(rt, m, t, script, s)
-}
 
-// A boot, which is an error where the record cannot be read.
-fn boot(rt: &impl Print, t: Tally, script: &[u8], s: &[u8]) -> Done {
-    let mut out = [0u8; 32];
-    let asked = cases::asked(s);
-    let named = names::record_named(script, text::rest(text::word(asked, 1), 1));
-    let r = named.record;
-    let b = r.b;
-    let booted = machine_state::boot(text::first(&b, r.n));
-    let machine = booted.machine;
-    let n = texts::put_boot(booted.code, &mut out);
-    let answer = text::but_last(text::first(&out, n));
-    let tally = shown(rt, t, s, answer, named.ok, b"this record cannot be read");
-    Done { machine, tally }
-}
-
-// A case with its answer, or the error.
-fn shown(rt: &impl Print, t: Tally, s: &[u8], answer: &[u8], ok: bool, why: &[u8]) -> Tally {
-    if ok {
-        cases::answered(rt, t, s, answer)
-    } else {
-        cases::unread(rt, t, s, why)
+    // An event, by the entry for the shim. A malformed line is an error here.
+    fn event(&mut self, rt: &impl Print, script: &Script, line: &str) {
+        let mut bytes = ArrayVec::<u8, MAX_LINE>::new();
+        let whole = expand::expand(&mut bytes, script, cases::asked(line));
+        let mut record = [0; MAX_RECORD];
+        let read = lines::read_line(bytes.as_slice(), &mut record);
+        let brought = record.get(..read.len).unwrap_or(&record);
+        let stepped = manager::step(self.machine, read.event, brought);
+        self.machine = stepped.machine;
+        let mut out = [0; MAX_TEXT];
+        let n = texts::put_answer(stepped.answer, &mut out);
+        let told = text::first_line(text::text_of(&out, n));
+        let said = whole && !matches!(read.event, Event::Malformed);
+        let why = "no such word, or not its numbers";
+        self.tally.shown(rt, line, told, said, why);
     }
-}
-
-// A question, which changes nothing.
-fn question(rt: &impl Print, m: Machine, t: Tally, s: &[u8]) -> Tally {
-    let mut out = [0u8; 128];
-    let n = questions::answer_to(m, cases::asked(s), &mut out);
-    let answer = text::first(&out, n);
-    shown(
-        rt,
-        t,
-        s,
-        answer,
-        0 < answer.len(),
-        b"this question cannot be read",
-    )
-}
-
-// Whether a line of a log says an event.
-fn is_event(e: Event) -> bool {
-    match e {
-        Event::Malformed => false,
-        _ => true,
-    }
-}
-
-// An event, by the entry for the shim. A malformed line is an error here.
-fn event(rt: &impl Print, m: Machine, t: Tally, script: &[u8], s: &[u8]) -> Done {
-    let mut line = [0u8; MAX_LINE];
-    let mut record = [0u8; MAX_RECORD];
-    let mut out = [0u8; 32];
-    let e = expand::expand(script, cases::asked(s), expand::nothing(), &mut line);
-    let bytes = text::first(&line, e.n);
-    let read = lines::read_line(bytes, &mut record);
-    let said = read.event;
-    let stepped = manager::step(m, said, text::first(&record, read.len));
-    let answer = stepped.answer;
-    let machine = stepped.machine;
-    let k = texts::put_answer(answer, &mut out);
-    let told = text::but_last(text::first(&out, k));
-    let tally = shown(
-        rt,
-        t,
-        s,
-        told,
-        e.ok & is_event(said),
-        b"no such word, or not its numbers",
-    );
-    Done { machine, tally }
 }

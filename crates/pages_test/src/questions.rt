@@ -1,105 +1,104 @@
 // The questions of a line: their words and numbers, and what answers them.
-use crate::show;
+use crate::show::Reply;
+use arrayvec::ArrayVec;
 use detection::Leaf;
-use machine_state::{CellPage, Machine, PhysPage};
+use machine_state::{CellPage, MAX_CELLS, Machine, PhysPage};
 use test_support::text;
 
+// How many numbers a question has at most.
+const NUMBERS: usize = 5;
+
+// What is asked: cells by their IDs, and a leaf with the processor's own registers.
+#[derive(Clone, Copy)]
+pub(crate) enum Question {
+    Owner(PhysPage),
+    Touch(PhysPage),
+    Map(u64, CellPage),
+    Word(u64, u64),
+    Byte(u64, u64),
+    Leaf(u32, Leaf),
+    Count(u64),
+    Free(u16),
+}
+
 // Whether a line's first word is a question's.
-pub(crate) fn is_question(s: &[u8]) -> bool {
-    let w = text::word(s, 0);
-    check::same(w, b"owner")
-        | check::same(w, b"touch")
-        | check::same(w, b"map")
-        | check::same(w, b"word")
-        | check::same(w, b"read")
-        | check::same(w, b"leaf")
-        | check::same(w, b"count")
-        | check::same(w, b"free")
+pub(crate) fn is_question(word: &str) -> bool {
+    matches!(
+        word,
+        "owner" | "touch" | "map" | "word" | "read" | "leaf" | "count" | "free"
+    )
 }
 
-// The number of word `k`.
-fn number(s: &[u8], k: usize) -> u64 {
-    let n = text::number_of(text::word(s, k));
-    n.value
-}
-
-// Whether word `k` is a number up to `most`.
-fn is_number(s: &[u8], k: usize, most: u64) -> bool {
-    let n = text::number_of(text::word(s, k));
-    n.ok & (n.value <= most)
-}
-
-// Whether a line is a word with one number.
-fn has_one(s: &[u8], word: &[u8]) -> bool {
-    check::same(text::word(s, 0), word) & (text::words_in(s) == 2) & is_number(s, 1, u64::MAX)
-}
-
-// Whether a line is a word with two numbers.
-fn has_two(s: &[u8], word: &[u8]) -> bool {
-    check::same(text::word(s, 0), word)
-        & (text::words_in(s) == 3)
-        & is_number(s, 1, u64::MAX)
-        & is_number(s, 2, u64::MAX)
-}
-
-// Whether a line is `leaf` with five numbers of 32 bits.
-fn is_leaf(s: &[u8]) -> bool {
-    check::same(text::word(s, 0), b"leaf")
-        & (text::words_in(s) == 6)
-        & is_number(s, 1, 0xffff_ffff)
-        & is_number(s, 2, 0xffff_ffff)
-        & is_number(s, 3, 0xffff_ffff)
-        & is_number(s, 4, 0xffff_ffff)
-        & is_number(s, 5, 0xffff_ffff)
-}
-
-// Writes the answer to a question and gives its length: 0 where the question cannot be read.
-pub(crate) fn answer_to(m: Machine, s: &[u8], out: &mut [u8]) -> usize {
-    let a = number(s, 1);
-    let b = number(s, 2);
-    if has_one(s, b"owner") {
-        return show::owner(pages::owner_of(m, PhysPage(a)), out);
+// The numbers that words are; nothing where one is none, or where there are more than a question has.
+fn numbers(words: &str) -> Option<ArrayVec<u64, NUMBERS>> {
+    let mut numbers = ArrayVec::new();
+    for word in words.split(' ') {
+        let number = text::number_of(word);
+        if !number.whole {
+            return None;
+        }
+        numbers.try_push(number.value).ok()?;
     }
-    if has_one(s, b"touch") {
-        return show::truth(pages::root_may_touch(m, PhysPage(a)), out);
-    }
-    if has_two(s, b"map") {
-        return show::mapping(mapping::mapping_of(m, a, CellPage(b)), out);
-    }
-    if has_two(s, b"word") {
-        return show::word(comm_region::region_word(m, a, b), out);
-    }
-    if has_two(s, b"read") {
-        return show::byte(comm_region::region_byte(m, a, b), out);
-    }
-    if is_leaf(s) {
-        return leaf(s, out);
-    }
-    if has_one(s, b"count") {
-        return show::put_number(cpu_set::count(a) as u64, out, 0);
-    }
-    if has_one(s, b"free") & (a <= 0xffff) {
-        return show::put_number(id_set::free_id(number16(s, 1)) as u64, out, 0);
-    }
-    0
+    Some(numbers)
 }
 
-// The low 16 bits of the number of word `k`.
-fn number16(s: &[u8], k: usize) -> u16 {
-    (number(s, k) % 0x1_0000) as u16
-}
+impl Question {
+    // The question of a line; nothing where it cannot be read.
+    pub(crate) fn read(line: &str) -> Option<Question> {
+        let (word, words) = line.split_once(' ')?;
+        let numbers = numbers(words)?;
+        match numbers.as_slice() {
+            [a] => Question::of_one(word, *a),
+            [a, b] => Question::of_two(word, *a, *b),
+            [leaf, eax, ebx, ecx, edx] if word == "leaf" => {
+                Question::of_leaf(*leaf, [*eax, *ebx, *ecx, *edx])
+            }
+            _ => None,
+        }
+    }
 
-// The low half of the number of word `k`.
-fn number32(s: &[u8], k: usize) -> u32 {
-    (number(s, k) % 0x1_0000_0000) as u32
-}
+    fn of_one(word: &str, a: u64) -> Option<Question> {
+        match word {
+            "owner" => Some(Question::Owner(PhysPage(a))),
+            "touch" => Some(Question::Touch(PhysPage(a))),
+            "count" => Some(Question::Count(a)),
+            "free" => Some(Question::Free(u16::try_from(a).ok()?)),
+            _ => None,
+        }
+    }
 
-fn leaf(s: &[u8], out: &mut [u8]) -> usize {
-    let passed = Leaf {
-        eax: number32(s, 2),
-        ebx: number32(s, 3),
-        ecx: number32(s, 4),
-        edx: number32(s, 5),
-    };
-    show::leaf(detection::cpuid(number32(s, 1), passed), out)
+    fn of_two(word: &str, cell: u64, b: u64) -> Option<Question> {
+        match word {
+            "map" => Some(Question::Map(cell, CellPage(b))),
+            "word" => Some(Question::Word(cell, b)),
+            "read" => Some(Question::Byte(cell, b)),
+            _ => None,
+        }
+    }
+
+    fn of_leaf(leaf: u64, [eax, ebx, ecx, edx]: [u64; 4]) -> Option<Question> {
+        let passed = Leaf {
+            eax: u32::try_from(eax).ok()?,
+            ebx: u32::try_from(ebx).ok()?,
+            ecx: u32::try_from(ecx).ok()?,
+            edx: u32::try_from(edx).ok()?,
+        };
+        Some(Question::Leaf(u32::try_from(leaf).ok()?, passed))
+    }
+
+    // What a machine answers.
+    pub(crate) fn reply(self, m: &Machine) -> Reply {
+        match self {
+            Question::Owner(page) => Reply::Owner(pages::owner_of(m, page)),
+            Question::Touch(page) => Reply::Truth(pages::root_may_touch(m, page)),
+            Question::Map(cell, page) => Reply::Mapping(mapping::mapping_of(m, cell, page)),
+            Question::Word(cell, word) => Reply::Word(comm_region::region_word(m, cell, word)),
+            Question::Byte(cell, offset) => Reply::Byte(comm_region::region_byte(m, cell, offset)),
+            Question::Leaf(leaf, passed) => Reply::Leaf(detection::cpuid(leaf, passed)),
+            Question::Count(set) => Reply::Count(cpu_set::count(set) as u64),
+            Question::Free(set) => {
+                Reply::Count(id_set::free_id(set).unwrap_or(MAX_CELLS) as u64)
+            }
+        }
+    }
 }

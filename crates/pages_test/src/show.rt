@@ -1,100 +1,78 @@
-// Answers as text. Each is written to the start of `out`, and its length given.
+// Answers as text.
 use detection::Leaf;
-use machine_state::{Access, Mapping, Owner, RegionByte, RegionWord};
-use std::io::{Cursor, Write};
-use test_support::text::{first, put_all};
+use machine_state::{Access, Mapping, Owner};
+use std::fmt::{self, Display, Formatter, Write};
 
-// A number in hexadecimal digits, behind the first `n` bytes.
-fn put_hex(v: u64, out: &mut [u8], n: usize) -> usize {
-    let mut digits = [0u8; 16];
-    let mut cursor = Cursor::new(&mut digits[..]);
-    let _ = write!(cursor, "{v:x}");
-    let k = cursor.position() as usize;
-    let at = put_all(out, n, b"0x");
-    put_all(out, at, first(&digits, k))
+// What a question is answered.
+#[derive(Clone, Copy)]
+pub(crate) enum Reply {
+    Owner(Owner),
+    Truth(bool),
+    Mapping(Mapping),
+    Word(Option<u32>),
+    Byte(Option<u8>),
+    Leaf(Leaf),
+    Count(u64),
 }
 
-// A number in decimal digits, behind the first `n` bytes.
-pub(crate) fn put_number(v: u64, out: &mut [u8], n: usize) -> usize {
-    let mut digits = [0u8; 20];
-    let mut cursor = Cursor::new(&mut digits[..]);
-    let _ = write!(cursor, "{v}");
-    let k = cursor.position() as usize;
-    put_all(out, n, first(&digits, k))
-}
-
-// `cell` and its ID.
-fn put_cell(id: usize, out: &mut [u8]) -> usize {
-    let at = put_all(out, 0, b"cell ");
-    put_number(id as u64, out, at)
-}
-
-pub(crate) fn owner(o: Owner, out: &mut [u8]) -> usize {
-    match o {
-        Owner::Hypervisor => put_all(out, 0, b"hypervisor"),
-        Owner::Cell(id) => put_cell(id, out),
-        Owner::Shared => put_all(out, 0, b"shared"),
-        Owner::Root => put_all(out, 0, b"root"),
-        Owner::Nobody => put_all(out, 0, b"nobody"),
-    }
-}
-
-pub(crate) fn mapping(m: Mapping, out: &mut [u8]) -> usize {
-    match m {
-        Mapping::Page(page, access) => {
-            let at = put_all(out, 0, b"page ");
-            let end = put_hex(page.0, out, at);
-            put_flags(access, out, end)
+impl Display for Reply {
+    fn fmt<W: Write>(&self, f: &mut Formatter<W>) -> fmt::Result {
+        match *self {
+            Reply::Owner(owner) => put_owner(f, owner),
+            Reply::Truth(yes) => f.write_str(if yes { "yes" } else { "no" }),
+            Reply::Mapping(mapping) => put_mapping(f, mapping),
+            Reply::Word(word) => put_hex(f, word.map(u64::from)),
+            Reply::Byte(byte) => put_hex(f, byte.map(u64::from)),
+            Reply::Leaf(leaf) => put_leaf(f, leaf),
+            Reply::Count(n) => write!(f, "{n}"),
         }
-        Mapping::Comm => put_all(out, 0, b"comm"),
-        Mapping::Unmapped => put_all(out, 0, b"nothing"),
     }
 }
 
-// The byte of a flag that is set.
-fn put_flag(set: bool, b: &[u8], out: &mut [u8], n: usize) -> usize {
-    if set { put_all(out, n, b) } else { n }
-}
-
-// A space and the letters of the flags that are set.
-fn put_flags(a: Access, out: &mut [u8], n: usize) -> usize {
-    let at = put_all(out, n, b" ");
-    let at = put_flag(a.read, b"r", out, at);
-    let at = put_flag(a.write, b"w", out, at);
-    put_flag(a.execute, b"x", out, at)
-}
-
-pub(crate) fn word(w: RegionWord, out: &mut [u8]) -> usize {
-    match w {
-        RegionWord::Word(n) => put_hex(n as u64, out, 0),
-        RegionWord::NoWord => put_all(out, 0, b"nothing"),
+fn put_owner<W: Write>(f: &mut Formatter<W>, owner: Owner) -> fmt::Result {
+    match owner {
+        Owner::Hypervisor => f.write_str("hypervisor"),
+        Owner::Cell(id) => write!(f, "cell {id}"),
+        Owner::Shared => f.write_str("shared"),
+        Owner::Root => f.write_str("root"),
+        Owner::Nobody => f.write_str("nobody"),
     }
 }
 
-pub(crate) fn byte(b: RegionByte, out: &mut [u8]) -> usize {
-    match b {
-        RegionByte::Byte(n) => put_hex(n as u64, out, 0),
-        RegionByte::NoByte => put_all(out, 0, b"nothing"),
+fn put_mapping<W: Write>(f: &mut Formatter<W>, mapping: Mapping) -> fmt::Result {
+    match mapping {
+        Mapping::Page(page, access) => {
+            let number = page.0;
+            write!(f, "page {number:#x} ")?;
+            put_access(f, access)
+        }
+        Mapping::Comm => f.write_str("comm"),
+        Mapping::Unmapped => f.write_str("nothing"),
     }
 }
 
-pub(crate) fn truth(yes: bool, out: &mut [u8]) -> usize {
-    if yes {
-        put_all(out, 0, b"yes")
-    } else {
-        put_all(out, 0, b"no")
+// The letters of the flags that are set.
+fn put_access<W: Write>(f: &mut Formatter<W>, access: Access) -> fmt::Result {
+    for (set, letter) in [
+        (access.read, 'r'),
+        (access.write, 'w'),
+        (access.execute, 'x'),
+    ] {
+        if set {
+            f.write_char(letter)?;
+        }
+    }
+    Ok(())
+}
+
+fn put_hex<W: Write>(f: &mut Formatter<W>, number: Option<u64>) -> fmt::Result {
+    match number {
+        Some(n) => write!(f, "{n:#x}"),
+        None => f.write_str("nothing"),
     }
 }
 
-// Two registers, behind the first `n` bytes.
-fn put_pair(a: u32, b: u32, out: &mut [u8], n: usize) -> usize {
-    let at = put_hex(a as u64, out, n);
-    let at = put_all(out, at, b" ");
-    put_hex(b as u64, out, at)
-}
-
-pub(crate) fn leaf(l: Leaf, out: &mut [u8]) -> usize {
-    let at = put_pair(l.eax, l.ebx, out, 0);
-    let at = put_all(out, at, b" ");
-    put_pair(l.ecx, l.edx, out, at)
+fn put_leaf<W: Write>(f: &mut Formatter<W>, leaf: Leaf) -> fmt::Result {
+    let Leaf { eax, ebx, ecx, edx } = leaf;
+    write!(f, "{eax:#x} {ebx:#x} {ecx:#x} {edx:#x}")
 }

@@ -1,100 +1,91 @@
 // What has to hold after each event. The script's lines `claim ..` say the claims in the order of
-// their numbers here.
+// their numbers here; the first line, 0, is none.
 use crate::view;
 use machine_state::{Answer, Machine, Owner, PhysPage, Stepped};
 use test_support::text;
+use texts::MAX_TEXT;
+
+#[derive(Clone, Copy)]
+pub(crate) enum Claim {
+    SameAnswers = 1,
+    SameMachines,
+    NotObeyed,
+    Refused,
+    OneOwner,
+    Pages,
+    Pool,
+}
 
 // The sample: the pages of the cells' regions and their neighbours, hypervisor memory and others.
 const SAMPLE: [u64; 10] = [
     0xff, 0x100, 0x101, 0x103, 0x104, 0x106, 0x109, 0x10b, 0x3f000, 0x40000,
 ];
 
-// The first claim that an event broke, or 0: the machine before it, what the entry for the shim made
-// of it, and the line that the run over the log has to answer in the same way.
-pub(crate) fn broken(before: Machine, stepped: Stepped, line: &[u8]) -> u64 {
-    let mut out = [0u8; 64];
-    let ran = replay_log::run(replay_log::start(before), line, &mut out);
-    let answer = stepped.answer;
-    if !says(answer, text::first(&out, ran.written)) {
-        return 1;
-    }
-    let run = ran.replay;
-    let of_run = run.machine;
-    of_change(before, stepped, of_run)
+// What an event may change, by its answer.
+#[derive(Clone, Copy, PartialEq, Eq)]
+enum Change {
+    Nothing,
+    Counters,
+    Anything,
 }
 
-// The same for the machines alone.
-fn of_change(before: Machine, stepped: Stepped, of_run: Machine) -> u64 {
-    let after = stepped.machine;
-    let answer = stepped.answer;
-    let was = view::print_of(before);
-    let is = view::print_of(after);
-    if !view::is_same(view::print_of(of_run), is) {
-        return 2;
-    }
-    let may = may_change(before, answer);
-    if (may == 0) & !view::is_same(was, is) {
-        return 3;
-    }
-    if was.state == is.state {
-        return 0;
-    }
-    if may == 1 { 4 } else { of_state(after) }
+// An error where a claim does not hold.
+fn demand(holds: bool, claim: Claim) -> Result<(), Claim> {
+    if holds { Ok(()) } else { Err(claim) }
 }
 
-// The first claim that a machine breaks, or 0.
-fn of_state(m: Machine) -> u64 {
-    if !view::have_one_owner(m) {
-        return 5;
+// The first claim that an event broke: the machine before it, what the entry for the shim made of it,
+// and the line that the run over the log has to answer in the same way.
+pub(crate) fn hold(before: &Machine, stepped: &Stepped, line: &[u8]) -> Result<(), Claim> {
+    let mut out = [0; 64];
+    let ran = replay_log::run(replay_log::start(*before), line, &mut out);
+    let written = text::text_of(&out, ran.written);
+    demand(is_text_of(stepped.answer, written), Claim::SameAnswers)?;
+    demand(ran.replay.machine == stepped.machine, Claim::SameMachines)?;
+    let may = may_change(before, stepped.answer);
+    demand(
+        (may != Change::Nothing) || (*before == stepped.machine),
+        Claim::NotObeyed,
+    )?;
+    if view::same_but_counters(before, &stepped.machine) {
+        return Ok(());
     }
-    if !pages_hold(m) {
-        return 6;
-    }
-    if view::pool_is_sum(m) { 0 } else { 7 }
+    demand(may == Change::Anything, Claim::Refused)?;
+    hold_of(&stepped.machine)
+}
+
+// The same for the claims that a machine alone has to meet.
+fn hold_of(m: &Machine) -> Result<(), Claim> {
+    demand(view::have_one_owner(m), Claim::OneOwner)?;
+    demand(SAMPLE.iter().all(|page| page_holds(m, *page)), Claim::Pages)?;
+    demand(view::pool_is_sum(m), Claim::Pool)
 }
 
 // Whether an answer is the text that the run over the log wrote.
-fn says(answer: Answer, written: &[u8]) -> bool {
-    let mut out = [0u8; 32];
+fn is_text_of(answer: Answer, written: &str) -> bool {
+    let mut out = [0; MAX_TEXT];
     let n = texts::put_answer(answer, &mut out);
-    check::same(text::first(&out, n), written)
+    text::text_of(&out, n) == written
 }
 
-// What an event with this answer may change: 0 nothing, as it is not obeyed; 1 exit counters, as it
-// refuses a call that did not wait, and then no cell has been messaged; 2 anything.
-fn may_change(before: Machine, a: Answer) -> u64 {
-    match a {
-        Answer::Code(code) => if (code < 0) & !view::waits(before) {
-            1
-        } else {
-            2
-        },
-        Answer::Wait(_) => 2,
-        Answer::Done => 2,
-        _ => 0,
+// Nothing where an event is not obeyed; exit counters where it refuses a call that did not wait, and
+// then no cell has been messaged.
+fn may_change(before: &Machine, answer: Answer) -> Change {
+    match answer {
+        Answer::Code(code) if (code < 0) & !view::waits(before) => Change::Counters,
+        Answer::Code(_) | Answer::Wait(_) | Answer::Done => Change::Anything,
+        _ => Change::Nothing,
     }
-}
-
-fn pages_hold(m: Machine) -> bool {
-    let mut ok = true;
-    let mut i = 0;
-    while i < 10 {
-        ok = ok & page_holds(m, SAMPLE[i]);
-        i += 1;
-    }
-    ok
 }
 
 // No two cells can touch a page unless it is shared or being loaded, and none hypervisor memory.
-fn page_holds(m: Machine, page: u64) -> bool {
+fn page_holds(m: &Machine, page: u64) -> bool {
     let root = pages::root_may_touch(m, PhysPage(page));
-    let touch = view::touch_by_cells(m, page);
-    let cells = touch % 256;
+    let cells = view::cells_that_touch(m, page);
     match pages::owner_of(m, PhysPage(page)) {
-        Owner::Hypervisor => (cells == 0) & !root,
-        Owner::Cell(_) => (cells == 1) & (!root | (255 < touch)),
+        Owner::Hypervisor | Owner::Nobody => (cells == 0) & !root,
+        Owner::Cell(_) => (cells == 1) & (!root | view::is_loaded(m, page)),
         Owner::Shared => 0 < cells,
         Owner::Root => (cells == 0) & root,
-        Owner::Nobody => (cells == 0) & !root,
     }
 }

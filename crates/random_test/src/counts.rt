@@ -1,82 +1,108 @@
 // How often each kind of answer came. The script's lines `answer ..` name the kinds in this order.
 use crate::lines_made::nth;
 use machine_state::Answer;
-use test_support::{cases, console};
+use test_support::console::print_line;
+use test_support::names::Script;
 
-pub(crate) const KINDS: usize = 23;
+// The kinds of answers: to calls, to other events, why an event is not obeyed, and to boots. No other
+// code may come.
+#[derive(Clone, Copy, PartialEq, Eq)]
+pub(crate) enum Kind {
+    Zero,
+    Positive,
+    NotPermitted,
+    NoEntry,
+    TooBig,
+    NoMemory,
+    Busy,
+    Exists,
+    Invalid,
+    NoSuchCall,
+    Wait,
+    Done,
+    Off,
+    Bad,
+    Stopped,
+    Held,
+    Denied,
+    Idle,
+    Booted,
+    BootInvalid,
+    BootOutOfRange,
+    BootNoMemory,
+    Other,
+}
 
-// The kind of an event that met the machine while it was off.
-pub(crate) const OFF: usize = 12;
+impl Kind {
+    // The kind of a return code.
+    fn of_code(code: i32) -> Self {
+        match code {
+            0 => Kind::Zero,
+            -1 => Kind::NotPermitted,
+            -2 => Kind::NoEntry,
+            -7 => Kind::TooBig,
+            -12 => Kind::NoMemory,
+            -16 => Kind::Busy,
+            -17 => Kind::Exists,
+            -22 => Kind::Invalid,
+            -38 => Kind::NoSuchCall,
+            _ if 0 < code => Kind::Positive,
+            _ => Kind::Other,
+        }
+    }
 
-// One more of a kind.
-pub(crate) fn count(counts: &mut [u64], kind: usize) {
-    if kind < counts.len() {
-        counts[kind] = std::num::wrapping_add_u64(counts[kind], 1);
+    pub(crate) fn of(answer: Answer) -> Self {
+        match answer {
+            Answer::Code(code) => Kind::of_code(code),
+            Answer::Wait(_) => Kind::Wait,
+            Answer::Done => Kind::Done,
+            Answer::Off => Kind::Off,
+            Answer::Bad => Kind::Bad,
+            Answer::Stopped => Kind::Stopped,
+            Answer::Held => Kind::Held,
+            Answer::Denied => Kind::Denied,
+            Answer::Idle => Kind::Idle,
+        }
+    }
+
+    // The kind of a boot's answer.
+    pub(crate) fn of_boot(code: i32) -> Self {
+        match code {
+            0 => Kind::Booted,
+            -22 => Kind::BootInvalid,
+            -34 => Kind::BootOutOfRange,
+            -12 => Kind::BootNoMemory,
+            _ => Kind::Other,
+        }
     }
 }
 
-// The kind of a return code.
-fn kind_of_code(code: i32) -> usize {
-    match code {
-        0 => 0,
-        -1 => 2,
-        -2 => 3,
-        -7 => 4,
-        -12 => 5,
-        -16 => 6,
-        -17 => 7,
-        -22 => 8,
-        -38 => 9,
-        _ => if code < 0 { 22 } else { 1 },
-    }
-}
+// How many kinds there are: Other is the last.
+const KINDS: usize = Kind::Other as usize + 1;
 
-pub(crate) fn kind_of(a: Answer) -> usize {
-    match a {
-        Answer::Code(code) => kind_of_code(code),
-        Answer::Wait(_) => 10,
-        Answer::Done => 11,
-        Answer::Off => OFF,
-        Answer::Bad => 13,
-        Answer::Stopped => 14,
-        Answer::Held => 15,
-        Answer::Denied => 16,
-        Answer::Idle => 17,
-    }
-}
+// How often each kind came.
+#[derive(Clone, Copy)]
+pub(crate) struct Counts([u64; KINDS]);
 
-// The kind of a boot's answer.
-pub(crate) fn kind_of_boot(code: i32) -> usize {
-    match code {
-        0 => 18,
-        -22 => 19,
-        -34 => 20,
-        -12 => 21,
-        _ => 22,
+impl Counts {
+    pub(crate) fn none() -> Self {
+        Counts([0; KINDS])
     }
-}
 
-// A kind with its count. Each kind that document 01 names has to come, and no other may.
-fn print_kind(rt: &impl Print, name: &[u8], n: u64, comes: bool) {
-    console::write_all(rt, name);
-    console::write_all(rt, b": ");
-    console::print_decimal(rt, n);
-    if comes == (n == 0) {
-        cases::remark(rt, b"   WRONG");
-    } else {
-        cases::remark(rt, b"");
+    // One more of a kind.
+    pub(crate) fn count(&mut self, kind: Kind) {
+        if let Some(n) = self.0.get_mut(kind as usize) {
+            *n = n.saturating_add(1);
+        }
     }
-}
 
-pub(crate) fn print(rt: &impl Print, counts: &[u64], script: &[u8]) {
-    let mut kind = 0;
-    while kind < counts.len() {
-        print_kind(
-            rt,
-            nth(script, b"answer", kind as u64),
-            counts[kind],
-            kind < 22,
-        );
-        kind += 1;
+    // Each kind with its count. Each that document 01 names has to come, and no other may.
+    pub(crate) fn print(&self, rt: &impl Print, script: &Script) {
+        for (kind, n) in self.0.iter().enumerate() {
+            let name = nth(script, "answer", kind);
+            let comes = kind != Kind::Other as usize;
+            let mark = if comes == (*n == 0) { "   WRONG" } else { "" };
+            print_line(rt, format_args!("{name}: {n}{mark}"));
+        }
     }
 }

@@ -3,115 +3,84 @@
 // A template is a line `line WORDS`. Its word `$NAME` stands for one of the words of the script's
 // line `list NAME = ..`, `~NAME` for one of them that is a record and is damaged, `@NAME` for a
 // record in HEX, and every other word for itself.
-use crate::dice;
+use crate::dice::Dice;
+use arrayvec::ArrayVec;
 use cell_rules::MAX_LENGTH;
 use lines::MAX_LINE;
+use std::io::Write;
+use test_support::names::Script;
 use test_support::records::Record;
-use test_support::{expand, names, records, text};
+use test_support::{expand, text};
 
 // Room for a line with its line feed.
 pub(crate) const LOG: usize = MAX_LINE + 1;
 
-// A text that has been written: its length, and the dice after it.
-#[derive(Clone, Copy)]
-pub struct Made {
-    pub dice: u64,
-    pub n: usize,
+// What a line says behind its first word, where that is `word`.
+fn said<'a>(line: &'a str, word: &str) -> Option<&'a str> {
+    let (first, behind) = text::first_word(line);
+    (first == word).then_some(behind)
 }
 
 // Of the script's lines that begin with `word`, the `k`-th from 0, without that word.
-pub(crate) fn nth<'a, 'b>(script: &'a [u8], word: &'b [u8], k: u64) -> &'a [u8] {
-    let mut left = k;
-    let mut at = 0;
-    let mut turns = script.len();
-    while 0 < turns {
-        let line = text::line_at(script, at);
-        if check::same(text::word(line, 0), word) {
-            if left == 0 {
-                return text::from_word(line, 1);
-            }
-            left -= 1;
-        }
-        at = text::next_line(script, at);
-        turns -= 1;
-    }
-    text::first(script, 0)
+pub(crate) fn nth<'a>(script: &Script<'a>, word: &str, k: usize) -> &'a str {
+    let mut lines = script.0.lines().filter_map(|line| said(line, word));
+    lines.nth(k).unwrap_or("")
 }
 
 // How many templates a script has.
-pub(crate) fn templates(script: &[u8]) -> u64 {
-    let mut k = 0;
-    while k < 1000 {
-        let template = nth(script, b"line", k);
-        if template.len() == 0 {
-            return k;
-        }
-        k += 1;
-    }
-    k
+pub(crate) fn templates(script: &Script) -> u64 {
+    let lines = script.0.lines();
+    lines.filter(|line| said(line, "line").is_some()).count() as u64
 }
 
 // Word `k` of a list, counted round.
-pub(crate) fn of_list<'a, 'b>(script: &'a [u8], name: &'b [u8], k: usize) -> &'a [u8] {
-    let words = names::line_of(script, b"list", name);
-    let n = text::words_in(words);
-    if n == 0 {
-        return words;
-    }
-    text::word(words, k % n)
-}
-
-// The record that `@NAME` stands for.
-pub(crate) fn record_of(script: &[u8], word: &[u8]) -> Record {
-    let named = names::record_named(script, text::rest(word, 1));
-    named.record
+pub(crate) fn of_list<'a>(script: &Script<'a>, name: &str, k: usize) -> &'a str {
+    let words = script.said_of("list", name).unwrap_or("");
+    let n = words.split(' ').count();
+    if n == 0 { "" } else { text::word(words, k % n) }
 }
 
 // A record with another byte, another length, or far too long.
-fn damaged(d: u64, r: Record) -> Record {
-    let a = dice::thrown(d);
-    let b = dice::thrown(a);
-    match dice::below(d, 8) {
-        0 => records::sized(r, MAX_LENGTH + 1),
-        1 => records::sized(r, dice::below(a, 200) as usize),
-        _ => records::put8(r, dice::below(a, 130) as usize, dice::below(b, 255) as u8),
+fn damaged(dice: Dice, record: Record) -> Record {
+    let mut damaged = record;
+    let a = dice.thrown();
+    match dice.below(8) {
+        0 => damaged.resize(MAX_LENGTH + 1),
+        1 => damaged.resize(a.below(200) as usize),
+        _ => damaged.put(a.below(130) as usize, &[a.thrown().below(255) as u8]),
+    }
+    damaged
+}
+
+// Writes a word of a template, a record by its name, behind what is written.
+fn put_word<const N: usize>(out: &mut ArrayVec<u8, N>, script: &Script, word: &str, dice: Dice) {
+    let picked = |name: &str| of_list(script, name, dice.below(1000) as usize);
+    if let Some(name) = word.strip_prefix('$') {
+        let _ = out.write(picked(name).as_bytes());
+    } else if let Some(name) = word.strip_prefix('~') {
+        let named = script.record_at(picked(name));
+        expand::put_record(out, &damaged(dice.thrown(), named.record));
+    } else {
+        let _ = out.write(word.as_bytes());
     }
 }
 
-// Writes a word of a template, a record by its name, behind the first `n` bytes.
-fn put_word(script: &[u8], word: &[u8], d: u64, out: &mut [u8], n: usize) -> usize {
-    let picked = of_list(script, text::rest(word, 1), dice::below(d, 1000) as usize);
-    match text::byte(word, 0) {
-        b'$' => text::put_all(out, n, picked),
-        b'~' => expand::put_record(out, n, damaged(dice::thrown(d), record_of(script, picked))),
-        _ => text::put_all(out, n, word),
+// Writes a line and its line feed, and gives the dice after it.
+pub(crate) fn line<const N: usize>(
+    out: &mut ArrayVec<u8, N>,
+    script: &Script,
+    templates: u64,
+    dice: Dice,
+) -> Dice {
+    let mut words = ArrayVec::<u8, LOG>::new();
+    let mut next = dice.thrown();
+    for word in nth(script, "line", dice.below(templates) as usize).split(' ') {
+        put_word(&mut words, script, word, next);
+        let _ = words.write(b" ");
+        next = next.thrown().thrown().thrown();
     }
-}
-
-// Writes the words of a template, with a space behind each.
-fn put_words(script: &[u8], template: &[u8], d: u64, out: &mut [u8]) -> Made {
-    let words = text::words_in(template);
-    let mut dice = d;
-    let mut n = 0;
-    let mut k = 0;
-    while k < words {
-        n = put_word(script, text::word(template, k), dice, out, n);
-        n = text::put(out, n, b' ');
-        dice = dice::thrown(dice::thrown(dice::thrown(dice)));
-        k += 1;
-    }
-    Made { dice, n }
-}
-
-// Writes a line and its line feed to the start of `out`.
-pub(crate) fn line(script: &[u8], templates: u64, d: u64, out: &mut [u8]) -> Made {
-    let mut words = [0u8; LOG];
-    let template = nth(script, b"line", dice::below(d, templates));
-    let made = put_words(script, template, dice::thrown(d), &mut words);
-    let bytes = text::but_last(text::first(&words, made.n));
-    let e = expand::expand(script, bytes, expand::nothing(), out);
-    Made {
-        dice: made.dice,
-        n: text::put(out, e.n, b'\n'),
-    }
+    let bytes = text::text_of(words.as_slice(), words.len().saturating_sub(1));
+    let _ = expand::expand(out, script, bytes);
+    let _ = out.write(b"\n");
+    next
 }

@@ -14,9 +14,13 @@ mod dice;
 mod lines_made;
 mod view;
 
+use arrayvec::ArrayVec;
+use counts::{Counts, Kind};
+use dice::{Dice, SEED};
 use lines::MAX_RECORD;
 use lines_made::{LOG, nth};
 use machine_state::{Booted, Machine, Stepped};
+use test_support::names::Script;
 use test_support::{console, text};
 
 // How many machines are run, and how many events each of them meets.
@@ -27,134 +31,87 @@ const EVENTS: u64 = 200;
 // How many events a machine meets that is off.
 const EVENTS_OFF: u64 = 8;
 
-// The dice, and how many claims were broken.
+// A run over a script that has so many templates: the dice, how many claims were broken, and how
+// often each kind of answer came.
 #[derive(Clone, Copy)]
-struct Totals {
-    dice: u64,
+struct Run<'a> {
+    script: Script<'a>,
+    templates: u64,
+    dice: Dice,
     broken: u64,
-}
-
-// A machine that meets events: beside these, the kind of the last answer, and how many events met the
-// machine while it was off.
-#[derive(Clone, Copy)]
-struct Going {
-    machine: Machine,
-    dice: u64,
-    broken: u64,
-    kind: usize,
-    off: u64,
+    counts: Counts,
 }
 
 fn main(rt: HostRuntime) {
-    let mut script = console::large_buffer();
-    let n = console::read_full(&mut rt.stdin(), &mut script);
-    run(&rt, &script[..n]);
-}
-
-// Every machine; then the counts, and how many claims were broken.
-fn run(rt: &impl Print, script: &[u8]) {
-    let templates = lines_made::templates(script);
-    let mut counts = [0u64; counts::KINDS];
-    let mut t = Totals {
-        dice: dice::SEED,
-        broken: 0,
-    };
-    let mut left = MACHINES;
-    while 0 < left {
-        let booted = boot(script, left);
-        counts::count(&mut counts, counts::kind_of_boot(booted.code));
-        let machine = booted.machine;
-        t = events(rt, machine, t, script, templates, &mut counts);
-        left -= 1;
-    }
-    counts::print(rt, &counts, script);
-    console::print_decimal(rt, t.broken);
-    console::write_all(rt, b" broken claims\n");
-}
-
-// The next machine: the script's list `system` has the records, some of which are refused.
-fn boot(script: &[u8], k: usize) -> Booted {
-    let r = lines_made::record_of(script, lines_made::of_list(script, b"system", k));
-    let b = r.b;
-    machine_state::boot(text::first(&b, r.n))
-}
-
-// Every event of a machine.
-fn events(
-    rt: &impl Print,
-    start: Machine,
-    t: Totals,
-    script: &[u8],
-    templates: u64,
-    counts: &mut [u64],
-) -> Totals {
-    let mut g = Going {
-        machine: start,
-        dice: t.dice,
-        broken: t.broken,
-        kind: 0,
-        off: 0,
-    };
-    let mut left = EVENTS;
-    while 0 < left {
-        if EVENTS_OFF <= g.off {
-            return ended(g);
-        }
-        g = one_event(rt, g, script, templates);
-        counts::count(counts, g.kind);
-        left -= 1;
-    }
-    ended(g)
-}
-
-fn ended(g: Going) -> Totals {
-    Totals {
-        dice: g.dice,
-        broken: g.broken,
-    }
-}
-
-// One event, by both entries, and the claims.
-fn one_event(rt: &impl Print, g: Going, script: &[u8], templates: u64) -> Going {
-    let mut log = [0u8; LOG];
-    let made = lines_made::line(script, templates, g.dice, &mut log);
-    let line = text::first(&log, made.n);
-    let before = g.machine;
-    let stepped = by_shim(before, text::but_last(line));
-    let broken = told(
-        rt,
-        g.broken,
+    let mut room = console::room::<65536>();
+    let n = console::read_full(&mut rt.stdin(), &mut room);
+    let script = Script(text::text_of(&room, n));
+    let mut run = Run {
         script,
-        claims::broken(before, stepped, line),
-        line,
-    );
-    let answer = stepped.answer;
-    let machine = stepped.machine;
-    let kind = counts::kind_of(answer);
-    Going {
-        machine,
-        dice: made.dice,
-        broken,
-        kind,
-        off: std::num::wrapping_add_u64(g.off, (kind == counts::OFF) as u64),
-    }
+        templates: lines_made::templates(&script),
+        dice: Dice(SEED),
+        broken: 0,
+        counts: Counts::none(),
+    };
+    run.machines(&rt);
+    run.counts.print(&rt, &script);
+    let broken = run.broken;
+    console::print_line(&rt, format_args!("{broken} broken claims"));
 }
 
 // A line by the entry for the shim.
-fn by_shim(m: Machine, line: &[u8]) -> Stepped {
-    let mut record = [0u8; MAX_RECORD];
+fn by_shim(m: &Machine, line: &[u8]) -> Stepped {
+    let mut record = [0; MAX_RECORD];
     let read = lines::read_line(line, &mut record);
-    let event = read.event;
-    manager::step(m, event, text::first(&record, read.len))
+    let brought = record.get(..read.len).unwrap_or(&record);
+    manager::step(*m, read.event, brought)
 }
 
-// Prints a broken claim with the line after which it was, and counts it.
-fn told(rt: &impl Print, broken: u64, script: &[u8], claim: u64, line: &[u8]) -> u64 {
-    if claim == 0 {
-        return broken;
+impl<'a> Run<'a> {
+    // Every machine.
+    fn machines(&mut self, rt: &impl Print) {
+        for k in (1..=MACHINES).rev() {
+            let booted = self.boot(k);
+            self.counts.count(Kind::of_boot(booted.code));
+            self.events(rt, booted.machine);
+        }
     }
-    console::write_all(rt, nth(script, b"claim", claim));
-    console::write_all(rt, b": ");
-    console::write_all(rt, line);
-    std::num::wrapping_add_u64(broken, 1)
+
+    // The next machine: the script's list `system` has the records, some of which are refused.
+    fn boot(&self, k: usize) -> Booted {
+        let word = lines_made::of_list(&self.script, "system", k);
+        machine_state::boot(self.script.record_at(word).record.bytes())
+    }
+
+    // Every event of a machine.
+    fn events(&mut self, rt: &impl Print, start: Machine) {
+        let mut machine = start;
+        let mut off: u64 = 0;
+        for _ in 0..EVENTS {
+            if EVENTS_OFF <= off {
+                return;
+            }
+            let stepped = self.event(rt, &machine);
+            let kind = Kind::of(stepped.answer);
+            self.counts.count(kind);
+            off = off.saturating_add((kind == Kind::Off) as u64);
+            machine = stepped.machine;
+        }
+    }
+
+    // One event, by both entries, and the claims. A broken one is printed with the line after which it
+    // was.
+    fn event(&mut self, rt: &impl Print, before: &Machine) -> Stepped {
+        let mut log = ArrayVec::<u8, LOG>::new();
+        self.dice = lines_made::line(&mut log, &self.script, self.templates, self.dice);
+        let line = log.as_slice();
+        let stepped = by_shim(before, line.strip_suffix(b"\n").unwrap_or(line));
+        if let Err(claim) = claims::hold(before, &stepped, line) {
+            let name = nth(&self.script, "claim", claim as usize);
+            let told = text::text_of(line, line.len());
+            console::print(rt, format_args!("{name}: {told}"));
+            self.broken = self.broken.saturating_add(1);
+        }
+        stepped
+    }
 }

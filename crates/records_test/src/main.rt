@@ -10,7 +10,11 @@
 
 use test_support::cases::Tally;
 use test_support::records::Record;
-use test_support::{cases, console, records, text, words};
+use test_support::words::Built;
+use test_support::{cases, console, text, words};
+
+// Why a line of a reader has no answer.
+const UNREAD: &str = "a word cannot be read";
 
 // What a line leaves for the next: the records that system and cell lines start from, the system
 // that cells are read in, and the cases so far.
@@ -23,118 +27,66 @@ struct Kept {
 }
 
 fn main(rt: HostRuntime) {
-    let mut table = console::large_buffer();
-    let n = console::read_full(&mut rt.stdin(), &mut table);
-    cases::total(&rt, run(&rt, &table[..n]));
+    let mut room = console::room::<65536>();
+    let n = console::read_full(&mut rt.stdin(), &mut room);
+    console::print_line(&rt, run(&rt, text::text_of(&room, n)));
 }
 
 // Every line of the table.
-fn run(rt: &impl Print, s: &[u8]) -> Tally {
-    let none = records::empty();
+fn run(rt: &impl Print, table: &str) -> Tally {
     let mut kept = Kept {
-        system: none,
-        cell: none,
-        boot: none,
-        tally: cases::no_cases(),
+        system: Record::empty(),
+        cell: Record::empty(),
+        boot: Record::empty(),
+        tally: Tally::new(),
     };
-    let mut at = 0;
-    let mut turns = s.len();
-    while 0 < turns {
-        if s.len() <= at {
-            return kept.tally;
-        }
-        let found = text::line_at(s, at);
-        kept = line(rt, kept, found);
-        at = text::plus(text::plus(at, found.len()), 1);
-        turns -= 1;
+    for line in table.lines() {
+        kept.read(rt, line);
     }
     kept.tally
 }
 
-// One line.
-fn line(rt: &impl Print, kept: Kept, s: &[u8]) -> Kept {
-    if text::starts(s, b"system ") {
-        return system(rt, kept, s);
-    }
-    if text::starts(s, b"cell ") {
-        return cell(rt, kept, s);
-    }
-    if (s.len() == 0) | text::starts(s, b"#") {
-        cases::remark(rt, s);
-        return kept;
-    }
-    let t = kept.tally;
-    with_tally(kept, cases::unread(rt, t, s, b"no reader has this name"))
+// What the words of a line, between its label and its answer, make of a record.
+fn built(base: &Record, line: &str) -> Built {
+    let (_, words) = cases::asked(line).split_once(':').unwrap_or(("", ""));
+    words::build(base, words)
 }
 
-fn with_tally(kept: Kept, tally: Tally) -> Kept {
-    let mut next = kept;
-    next.tally = tally;
-    next
-}
-
-// The words of a line, between its label and its answer.
-fn words_of(s: &[u8]) -> &[u8] {
-    let asked = cases::asked(s);
-    text::rest(asked, text::plus(text::find(asked, b":"), 1))
-}
-
-fn system(rt: &impl Print, kept: Kept, s: &[u8]) -> Kept {
-    let base = kept.system;
-    let t = kept.tally;
-    let w = words::build(base, words_of(s));
-    let r = w.record;
-    let mut next = with_tally(kept, answered(rt, t, s, w.ok, boot_code(r)));
-    if w.keep {
-        next.system = r;
+impl Kept {
+    // One line.
+    fn read(&mut self, rt: &impl Print, line: &str) {
+        if line.starts_with("system ") {
+            self.system(rt, line);
+        } else if line.starts_with("cell ") {
+            self.cell(rt, line);
+        } else if text::is_remark(line) {
+            console::print_line(rt, line);
+        } else {
+            self.tally.unread(rt, line, "no reader has this name");
+        }
     }
-    if w.start {
-        next.boot = r;
+
+    // Boot's answer to the record of a line.
+    fn system(&mut self, rt: &impl Print, line: &str) {
+        let built = built(&self.system, line);
+        if built.keep {
+            self.system = built.record;
+        }
+        if built.start {
+            self.boot = built.record;
+        }
+        let code = system_record::read_system(built.record.bytes()).code;
+        self.tally.shown(rt, line, code, built.whole, UNREAD);
     }
-    next
-}
 
-fn cell(rt: &impl Print, kept: Kept, s: &[u8]) -> Kept {
-    let base = kept.cell;
-    let boot = kept.boot;
-    let t = kept.tally;
-    let w = words::build(base, words_of(s));
-    let r = w.record;
-    let mut next = with_tally(kept, answered(rt, t, s, w.ok, cell_code(boot, r)));
-    if w.keep {
-        next.cell = r;
+    // The cell reader's answer in the system that was started.
+    fn cell(&mut self, rt: &impl Print, line: &str) {
+        let built = built(&self.cell, line);
+        if built.keep {
+            self.cell = built.record;
+        }
+        let started = system_record::read_system(self.boot.bytes());
+        let code = cell_rules::read_cell(&started.config, built.record.bytes()).code;
+        self.tally.shown(rt, line, code, built.whole, UNREAD);
     }
-    next
-}
-
-// Boot's answer.
-fn boot_code(r: Record) -> i32 {
-    let b = r.b;
-    let read = system_record::read_system(text::first(&b, r.n));
-    read.code
-}
-
-// The cell reader's answer in a system.
-fn cell_code(boot: Record, r: Record) -> i32 {
-    let a = boot.b;
-    let started = system_record::read_system(text::first(&a, boot.n));
-    let config = started.config;
-    let b = r.b;
-    let read = cell_rules::read_cell(config, text::first(&b, r.n));
-    read.code
-}
-
-// The line with its answer, or with an error where its words are wrong.
-fn answered(rt: &impl Print, t: Tally, s: &[u8], ok: bool, code: i32) -> Tally {
-    if !ok {
-        return cases::unread(rt, t, s, b"a word cannot be read");
-    }
-    let mut out = [0u8; 32];
-    let n = texts::put_boot(code, &mut out);
-    cases::answered(
-        rt,
-        t,
-        s,
-        text::rest(text::but_last(text::first(&out, n)), 5),
-    )
 }

@@ -1,7 +1,7 @@
-// What the test programs share: parts of a text, records by name, the bytes of a log's line, and
-// the line of a script that is printed with its answer. No other crate uses it.
+// What the test programs share: words and numbers of a text, records by name, the bytes of a log's line,
+// and the line of a script that is printed with its answer. No other crate uses it.
 //
-// Nothing here can go out of range: a place past the end of a text stands for its end.
+// No heap, as everywhere in the project: texts lie in fixed memory, and what has no room is left out.
 #![tactic(auto)]
 
 pub mod cases;

@@ -2,73 +2,62 @@
 // (words.rt) make of the record BASE, or of no bytes where BASE is `nothing`. A base may have a base
 // of its own, and that one `nothing` alone.
 use crate::records::Record;
-use crate::{records, text, words};
+use crate::{text, words};
 
-// A record, and whether the script has it and its words could be read.
+// A record as far as it can be read, and whether the script has it and all of its words can be read.
 #[derive(Clone, Copy)]
 pub struct Named {
-    pub ok: bool,
     pub record: Record,
+    pub whole: bool,
 }
 
-// What a line says behind `KIND NAME = `, if it is of this kind and says it of this name.
-fn said<'a, 'b, 'c>(line: &'a [u8], kind: &'b [u8], name: &'c [u8]) -> &'a [u8] {
-    if !check::same(text::word(line, 0), kind) {
-        return text::first(line, 0);
+#[derive(Clone, Copy)]
+pub struct Script<'a>(pub &'a str);
+
+impl<'a> Script<'a> {
+    // What the script says of a name in a line `KIND NAME = ..`.
+    pub fn said_of(&self, kind: &str, name: &str) -> Option<&'a str> {
+        self.0.lines().find_map(|line| said(line, kind, name))
     }
-    if check::same(text::word(line, 1), name) {
-        text::from_word(line, 3)
+
+    // The base and the words of a record; "" where the script has none, which changes nothing.
+    fn made_of(&self, name: &str) -> (&'a str, &'a str) {
+        text::first_word(self.said_of("record", name).unwrap_or(""))
+    }
+
+    // The record of a name.
+    pub fn record(&self, name: &str) -> Named {
+        let last = self.made_of(name);
+        let middle = self.made_of(last.0);
+        let first = self.made_of(middle.0);
+        let lines = [first, middle, last];
+        let mut named = Named {
+            record: Record::empty(),
+            whole: lines.iter().any(|(base, _)| *base == "nothing"),
+        };
+        for (_, words) in lines {
+            let built = words::build(&named.record, words);
+            named.record = built.record;
+            named.whole &= built.whole;
+        }
+        named
+    }
+
+    // The record that a word `@NAME` stands for.
+    pub fn record_at(&self, word: &str) -> Named {
+        let (_, name) = word.split_at_checked(1).unwrap_or(("", ""));
+        self.record(name)
+    }
+}
+
+// What a line says behind `KIND NAME = `, if it is of this kind and says something of this name.
+fn said<'a>(line: &'a str, kind: &str, name: &str) -> Option<&'a str> {
+    let (first, behind) = line.split_once(' ')?;
+    let (second, behind) = behind.split_once(' ')?;
+    let (_, said) = behind.split_once(' ')?;
+    if first == kind && second == name && !said.is_empty() {
+        Some(said)
     } else {
-        text::first(line, 0)
+        None
     }
-}
-
-// What a script says of a name in a line `KIND NAME = ..`. Nothing where it has no such line.
-pub fn line_of<'a, 'b, 'c>(script: &'a [u8], kind: &'b [u8], name: &'c [u8]) -> &'a [u8] {
-    let mut at = 0;
-    while at < script.len() {
-        let end = text::find_byte(script, at, b'\n');
-        let found = said(&script[at..end], kind, name);
-        if 0 < found.len() {
-            return found;
-        }
-        if script.len() <= end {
-            return found;
-        }
-        at = end + 1;
-    }
-    text::first(script, 0)
-}
-
-// The base and the words of a record. Nothing where the script does not have it.
-fn record_line<'a, 'b>(script: &'a [u8], name: &'b [u8]) -> &'a [u8] {
-    line_of(script, b"record", name)
-}
-
-// Whether what is said of a name starts from no bytes.
-fn from_nothing(said: &[u8]) -> bool {
-    check::same(text::word(said, 0), b"nothing")
-}
-
-// The record that the words of a line make of another.
-fn changed(base: Named, said: &[u8]) -> Named {
-    let from = base.record;
-    let made = words::build(from, text::from_word(said, 1));
-    let record = made.record;
-    Named {
-        ok: base.ok & made.ok,
-        record,
-    }
-}
-
-// The record that a script names. A line that is not there changes nothing.
-pub fn record_named(script: &[u8], name: &[u8]) -> Named {
-    let said = record_line(script, name);
-    let base = record_line(script, text::word(said, 0));
-    let first = record_line(script, text::word(base, 0));
-    let none = Named {
-        ok: from_nothing(said) | from_nothing(base) | from_nothing(first),
-        record: records::empty(),
-    };
-    changed(changed(changed(none, first), base), said)
 }

@@ -5,29 +5,38 @@ use region_table::MAX_REGIONS;
 // How many bytes a record has room for.
 pub const ROOM: usize = 152 + 32 * MAX_REGIONS;
 
-// A record under test: the first `n` of its bytes.
+// A record under test: the first bytes of an image.
 #[derive(Clone, Copy)]
 pub struct Record {
-    pub b: [u8; ROOM],
-    pub n: usize,
+    image: [u8; ROOM],
+    len: usize,
 }
 
-// A record of no bytes, and zeros behind it.
-pub fn empty() -> Record {
-    let b = [0; ROOM];
-    Record { b, n: 0 }
-}
-
-// The same bytes, cut or grown to `n`.
-pub fn sized(r: Record, n: usize) -> Record {
-    let b = r.b;
-    Record { b, n }
-}
-
-pub fn put8(r: Record, at: usize, v: u8) -> Record {
-    let mut t = r;
-    if at < ROOM {
-        t.b[at] = v;
+impl Record {
+    // A record of no bytes, and zeros behind it.
+    pub fn empty() -> Self {
+        Record {
+            image: [0; ROOM],
+            len: 0,
+        }
     }
-    t
+
+    pub fn bytes(&self) -> &[u8] {
+        self.image.get(..self.len).unwrap_or(&self.image)
+    }
+
+    // Cuts the record, or grows it by the bytes behind it.
+    pub fn resize(&mut self, len: usize) {
+        self.len = len;
+    }
+
+    // Stores bytes from a place of the image on.
+    pub fn put(&mut self, at: usize, bytes: &[u8]) {
+        let Some(places) = self.image.get_mut(at..) else {
+            return;
+        };
+        for (place, byte) in places.iter_mut().zip(bytes) {
+            *place = *byte;
+        }
+    }
 }

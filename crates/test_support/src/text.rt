@@ -1,207 +1,71 @@
-// Parts of a text, its words and numbers.
-ghost use Rattle.std.specs.Prelude.{◌<◌, ◌≤◌, length};
+// The words and numbers of a text. What is not there is "", and no option: who asks for it compares it with
+// a text, reads it as a number or prints it.
+use std::str;
 
-// A number, and whether there is one.
+// The text that the first `n` bytes are; nothing where there are fewer, or where they are no text.
+pub fn text_of(bytes: &[u8], n: usize) -> &str {
+    match bytes.get(..n) {
+        Some(front) => str::from_utf8(front).unwrap_or(""),
+        None => "",
+    }
+}
+
+// The first line of a text, without its line feed.
+pub fn first_line(s: &str) -> &str {
+    s.lines().next().unwrap_or("")
+}
+
+// A text's first word, and what follows the space behind it.
+pub fn first_word(s: &str) -> (&str, &str) {
+    s.split_once(' ').unwrap_or((s, ""))
+}
+
+// Word `k`, counted from 0; words stand between single spaces. Nothing where there are fewer.
+pub fn word(s: &str, k: usize) -> &str {
+    s.split(' ').nth(k).unwrap_or("")
+}
+
+// A number as far as it can be read, and whether the whole of its word is one. A flag, and no option:
+// a line that is wrong counts so, and is run with what can be read of it.
 #[derive(Clone, Copy)]
 pub struct Number {
-    pub ok: bool,
     pub value: u64,
+    pub whole: bool,
 }
 
-// The first `n` bytes, or all of them where there are fewer.
-pub fn first(s: &[u8], n: usize) -> &[u8] {
-    if n < s.len() { &s[0..n] } else { s }
-}
-
-// What follows the first `n` bytes; nothing where there are no more.
-pub fn rest(s: &[u8], n: usize) -> &[u8] {
-    if n < s.len() { &s[n..] } else { &s[0..0] }
-}
-
-// The byte at a place; 0 past the end.
-pub fn byte(s: &[u8], at: usize) -> u8 {
-    if at < s.len() { s[at] } else { 0 }
-}
-
-// A sum, which goes round at 2^64.
-pub fn plus(a: usize, b: usize) -> usize {
-    std::num::wrapping_add_usize(a, b)
-}
-
-// Stores a byte behind the first `n` of `out`, if there is room, and gives how many there are.
-pub fn put(out: &mut [u8], n: usize, b: u8) -> usize {
-    if n < out.len() {
-        out[n] = b;
-        n + 1
-    } else {
-        n
-    }
-}
-
-// Stores bytes behind the first `n` of `out`, as far as there is room, and gives how many there
-// are.
-pub fn put_all(out: &mut [u8], n: usize, s: &[u8]) -> usize {
-    let mut end = n;
-    let mut i = 0;
-    while i < s.len() {
-        end = put(out, end, s[i]);
-        i += 1;
-    }
-    end
-}
-
-// Whether a text begins with another.
-pub fn starts(s: &[u8], with: &[u8]) -> bool {
-    check::same(first(s, with.len()), with)
-}
-
-// Where `part` first occurs, or the length.
-pub fn find(s: &[u8], part: &[u8]) -> usize {
-    let mut i = 0;
-    while i < s.len() {
-        if starts(rest(s, i), part) {
-            return i;
-        }
-        i += 1;
-    }
-    i
-}
-
-// Where the first byte `b` from a place on is, or the length.
-pub(crate) fn find_byte(s: &[u8], at: usize, b: u8) -> usize
-    requires { at ≤ length s.now }
-    ensures { (at ≤ result) × (result ≤ length s.now) }
-{
-    for i in at..s.len() {
-        if s[i] == b {
-            return i;
-        }
-    }
-    s.len()
-}
-
-// What stands before the first byte `b`, or all.
-pub fn before(s: &[u8], b: u8) -> &[u8] {
-    first(s, find_byte(s, 0, b))
-}
-
-// The line that begins at a place, without its line feed.
-pub fn line_at(s: &[u8], at: usize) -> &[u8] {
-    before(rest(s, at), b'\n')
-}
-
-// The place of the line behind the one at a place.
-pub fn next_line(s: &[u8], at: usize) -> usize {
-    let line = line_at(s, at);
-    plus(plus(at, line.len()), 1)
-}
-
-// A text without its last byte.
-pub fn but_last(s: &[u8]) -> &[u8] {
-    if 0 < s.len() {
-        first(s, s.len() - 1)
-    } else {
-        s
-    }
-}
-
-// The place where word `k` begins.
-fn word_at(s: &[u8], k: usize) -> usize {
-    let mut at = 0;
-    let mut left = k;
-    while 0 < left {
-        let word = before(rest(s, at), b' ');
-        at = plus(plus(at, word.len()), 1);
-        left -= 1;
-    }
-    at
-}
-
-// The text from word `k` on; the first word is 0, and words stand between single spaces.
-pub fn from_word(s: &[u8], k: usize) -> &[u8] {
-    rest(s, word_at(s, k))
-}
-
-// Word `k`; nothing where there are fewer.
-pub fn word(s: &[u8], k: usize) -> &[u8] {
-    before(from_word(s, k), b' ')
-}
-
-// How many words a text has; of no bytes, none.
-pub fn words_in(s: &[u8]) -> usize {
-    let mut spaces: usize = 0;
-    let mut i = 0;
-    while i < s.len() {
-        spaces = plus(spaces, (s[i] == b' ') as usize);
-        i += 1;
-    }
-    if s.len() == 0 {
-        return 0;
-    }
-    plus(spaces, 1)
-}
-
-// The place of a word in a list of words, counted from 0; how many there are where it is not one.
-pub fn index_of(list: &[u8], w: &[u8]) -> usize {
-    let n = words_in(list);
-    let mut k = 0;
-    while k < n {
-        if check::same(word(list, k), w) {
-            return k;
-        }
-        k += 1;
-    }
-    n
-}
-
-// What a digit stands for; 16 for another byte.
-fn digit(b: u8) -> u64 {
-    find_byte(b"0123456789abcdef", 0, b) as u64
-}
-
-// A number with one digit more, hexadecimal or decimal.
-fn with_digit(n: Number, hex: bool, b: u8) -> Number {
-    let v = n.value % 0x1000_0000_0000_0000;
-    let d = digit(b);
-    let low = d % 16;
-    let ok = n.ok & (v == n.value);
-    if hex {
+impl Number {
+    // With one digit more. Only a front below 2^60 can have one.
+    fn with_digit(self, base: u64, byte: u8) -> Self {
+        let front = self.value % 0x1000_0000_0000_0000;
+        let digit = b"0123456789abcdef".iter().position(|d| *d == byte);
+        let low = digit.unwrap_or(0) as u64;
         Number {
-            ok: ok & (d < 16),
-            value: 16 * v + low,
-        }
-    } else {
-        Number {
-            ok: ok & (d < 10),
-            value: 10 * v + low,
+            value: front.wrapping_mul(base).wrapping_add(low),
+            whole: self.whole && front == self.value && digit.is_some() && low < base,
         }
     }
 }
 
-// The number that digits make.
-pub fn digits(w: &[u8], hex: bool) -> Number {
-    let mut n = Number {
-        ok: 0 < w.len(),
+// The number that digits make, those above 9 in lower case.
+pub fn digits(digits: &[u8], base: u64) -> Number {
+    let none = Number {
         value: 0,
+        whole: !digits.is_empty(),
     };
-    let mut i = 0;
-    while i < w.len() {
-        n = with_digit(n, hex, w[i]);
-        i += 1;
-    }
-    n
+    digits
+        .iter()
+        .fold(none, |n, byte| n.with_digit(base, *byte))
 }
 
 // A word as a number: decimal, or after 0x hexadecimal in lower case.
-pub fn number_of(w: &[u8]) -> Number {
-    if starts(w, b"0x") {
-        digits(rest(w, 2), true)
-    } else {
-        digits(w, false)
+pub fn number_of(word: &str) -> Number {
+    match word.strip_prefix("0x") {
+        Some(behind) => digits(behind.as_bytes(), 16),
+        None => digits(word.as_bytes(), 10),
     }
 }
 
-// Word `k` as a number.
-pub fn number_at(s: &[u8], k: usize) -> Number {
-    number_of(word(s, k))
+// Whether a line of a script says nothing to run.
+pub fn is_remark(line: &str) -> bool {
+    line.is_empty() || line.starts_with('#')
 }
