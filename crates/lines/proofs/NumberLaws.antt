@@ -34,17 +34,14 @@ is-some : (ok : Bool) (n v : ℕ) → Some v ≡ number_if ok n → (ok ≡ true
 is-some true n v e = (refl, cc)
 is-some false n v e = cc
 
-pub not-number : (bits : ℕ) (w : List ℕ) → None ≡ word_number bits w → is_number bits w ≡ false
+-- a word that was read: it is a number, and which; or it is none
+pub number-told : (bits : ℕ) (w : List ℕ) {o : Option ℕ} (v : ℕ) → o ≡ word_number bits w → o ≡ Some v → (is_number bits w ≡ true) × (v ≡ value w)
 unfolding word_number
-not-number bits w e = is-none (is_number bits w) (value w) e
+number-told bits w v e q = is-some (is_number bits w) (value w) v (sym q ∙ e)
 
-pub number-is : (bits : ℕ) (w : List ℕ) (v : ℕ) → Some v ≡ word_number bits w → is_number bits w ≡ true
+pub none-told : (bits : ℕ) (w : List ℕ) {o : Option ℕ} → o ≡ word_number bits w → o ≡ None → is_number bits w ≡ false
 unfolding word_number
-number-is bits w v e = (is-some (is_number bits w) (value w) v e).0
-
-pub value-is : (bits : ℕ) (w : List ℕ) (v : ℕ) → Some v ≡ word_number bits w → v ≡ value w
-unfolding word_number
-value-is bits w v e = (is-some (is_number bits w) (value w) v e).1
+none-told bits w e q = is-none (is_number bits w) (value w) (sym q ∙ e)
 
 -- ---- one digit more
 

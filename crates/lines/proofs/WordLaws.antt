@@ -1,41 +1,10 @@
 -- Laws of words: a line is its first word, and behind the space the other words. By induction on the line. Assumes nothing.
-use Rattle.std.proofs.Common.{◌≡◌, refl, ap, ◌∙◌, Bool, true, false, ◌&&◌, List, [], ◌∷◌, ℕ, suc, ◌+◌, ◌<◌, ◌≤◌, length, get_or, take, drop, Some, None, eqb, ltb, ◌==◌, cond, arith}
+use Rattle.std.proofs.Common.{◌≡◌, refl, ap, ◌∙◌, Bool, true, false, List, [], ◌∷◌, ℕ, suc, ◌+◌, ◌<◌, ◌≤◌, length, take, drop, Some, None, eqb, ltb, ◌==◌, cond, arith}
 use native.Mathlib.Nat.{not-suc-le-zero}
-use lib.Pointwise.{pointwise}
-use Rattle.base.specs.Lists.{same}
-use borrow.Author.Tests.{ltb-true, ltb-false, lt-ltb, le-ltb, eq-eqb, ne_eqb}
-use mathlib.Core.Logic.{◌⊎◌, inl, inr}
-use Rattle.base.proofs.Tests.{le-or-lt}
-use Rattle.std.proofs.lemmas.List.Sums.{position_or_len_is}
+use borrow.Author.Tests.{ltb-true, ltb-false}
 use Rattle.std.specs.List.{position, position_or_len}
 use Rattle.std.proofs.lemmas.List.Recursion.{is_position_or_len}
 use Rattle.lines.specs.Lines.{space, into_first, line_words}
-
-pub same-pointwise : (xs ys : List ℕ) → pointwise eqb xs ys ≡ same xs ys
-same-pointwise [] [] = refl
-same-pointwise [] (y ∷ ys) = refl
-same-pointwise (x ∷ xs) [] = refl
-same-pointwise (x ∷ xs) (y ∷ ys) = ap (λ (t : Bool). eqb x y && t) (same-pointwise xs ys)
-
--- the first space, and none
-pub space-at : (s : List ℕ) (at : ℕ) → at < length s → ((k : ℕ) → k < at → (get_or s k 0 == 32) ≡ false) → get_or s at 0 ≡ 32
-    → Some at ≡ position (λ b. b == 32) s
-space-at s at h before e =
-    let first : position_or_len (λ b. b == 32) s ≡ at = position_or_len_is (λ b. b == 32) s at 0 (omega arith) before (λ _. eq-eqb _ _ e) in
-    rw (first, lt-ltb at (length s) h)
-
-pub spaceless : (s : List ℕ) → ((k : ℕ) → k < length s → (get_or s k 0 == 32) ≡ false) → None ≡ position (λ b. b == 32) s
-spaceless s before =
-    let first : position_or_len (λ b. b == 32) s ≡ length s = position_or_len_is (λ b. b == 32) s (length s) 0 (omega arith) before (λ h. absurd (omega arith)) in
-    rw (first, le-ltb (length s) (length s) (omega arith))
-
-pub no-space-more : (s : List ℕ) (i : ℕ) → ((k : ℕ) → k < i → (get_or s k 0 == 32) ≡ false) → (get_or s i 0 ≡ 32 → ⊥)
-    → (k : ℕ) → k < i + 1 → (get_or s k 0 == 32) ≡ false
-no-space-more s i before n k h = by-place (le-or-lt i k)
-  where
-    by-place : (i ≤ k) ⊎ (k < i) → (get_or s k 0 == 32) ≡ false
-    by-place (inl l) = let e : k ≡ i = omega arith in rw e (ne_eqb _ _ n)
-    by-place (inr l) = before k l
 
 -- how many bytes stand before the first space
 unfoldable until_space : List ℕ → ℕ

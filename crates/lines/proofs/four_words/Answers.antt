@@ -1,6 +1,7 @@
 -- `lines::four_words` meets its contract: each exit is decided by the tests before it. Assumes nothing.
 use Rattle.lines.specs.Lines.{event_of}
-use Rattle.lines.proofs.NumberLaws.{not-number, number-is, value-is}
+use Rattle.machine_state.specs.declared.Event.TheVariants.{Store}
+use Rattle.lines.proofs.NumberLaws.{number-told, none-told}
 use Rattle.lines.proofs.EventLaws.{told}
 use Rattle.lines.proofs.four_words.Goals as goal
 
@@ -11,35 +12,29 @@ returns-then-not-is_word c = rw (told c.is_word.ensures c.if-not-is_word.true)
 pub returns-in_err-cpu : goal.returns-in_err-cpu
 unfolding event_of
 returns-in_err-cpu c =
-    let word = told c.is_word.ensures c.if-not-is_word.false in
-    let none = not-number 64 c.args.a.now (told c.in_err-cpu.was c.word_number.ensures) in
-    rw (c.from_residual.ensures, word, none)
+    let is = told c.is_word.ensures c.if-not-is_word.false in
+    rw (c.from_residual.ensures, is, none-told 64 c.args.a.now c.word_number.ensures c.in_err-cpu.was)
 
 pub returns-in_err-word : goal.returns-in_err-word
 unfolding event_of
 returns-in_err-word c =
-    let word = told c.is_word.ensures c.if-not-is_word.false in
-    let n0 = number-is 64 c.args.a.now _ (told c.in_ok-cpu.was c.word_number.ensures) in
-    let none = not-number 64 c.args.b.now (told c.in_err-word.was c.word_number-2.ensures) in
-    rw (c.from_residual-in_err-word.ensures, word, n0, none)
+    let is = told c.is_word.ensures c.if-not-is_word.false in
+    let cpu = number-told 64 c.args.a.now _ c.word_number.ensures c.in_ok-cpu.was in
+    rw (c.from_residual-in_err-word.ensures, is, cpu.0, none-told 64 c.args.b.now c.word_number-2.ensures c.in_err-word.was)
 
 pub returns-in_err-value : goal.returns-in_err-value
 unfolding event_of
 returns-in_err-value c =
-    let word = told c.is_word.ensures c.if-not-is_word.false in
-    let n0 = number-is 64 c.args.a.now _ (told c.in_ok-cpu.was c.word_number.ensures) in
-    let n1 = number-is 64 c.args.b.now _ (told c.in_ok-word.was c.word_number-2.ensures) in
-    let none = not-number 32 c.args.c.now (told c.in_err-value.was c.word32_number.ensures) in
-    rw (c.from_residual-in_err-value.ensures, word, n0, n1, none)
+    let is = told c.is_word.ensures c.if-not-is_word.false in
+    let cpu = number-told 64 c.args.a.now _ c.word_number.ensures c.in_ok-cpu.was in
+    let word = number-told 64 c.args.b.now _ c.word_number-2.ensures c.in_ok-word.was in
+    rw (c.from_residual-in_err-value.ensures, is, cpu.0, word.0, none-told 32 c.args.c.now c.word32_number.ensures c.in_err-value.was)
 
 pub returns : goal.returns
 unfolding event_of
 returns c =
-    let word = told c.is_word.ensures c.if-not-is_word.false in
-    let n0 = number-is 64 c.args.a.now _ (told c.in_ok-cpu.was c.word_number.ensures) in
-    let v0 = value-is 64 c.args.a.now _ (told c.in_ok-cpu.was c.word_number.ensures) in
-    let n1 = number-is 64 c.args.b.now _ (told c.in_ok-word.was c.word_number-2.ensures) in
-    let v1 = value-is 64 c.args.b.now _ (told c.in_ok-word.was c.word_number-2.ensures) in
-    let n2 = number-is 32 c.args.c.now _ (told c.in_ok-value.was c.word32_number.ensures) in
-    let v2 = value-is 32 c.args.c.now _ (told c.in_ok-value.was c.word32_number.ensures) in
-    rw (word, n0, n1, n2) (cc)
+    let is = told c.is_word.ensures c.if-not-is_word.false in
+    let cpu = number-told 64 c.args.a.now _ c.word_number.ensures c.in_ok-cpu.was in
+    let word = number-told 64 c.args.b.now _ c.word_number-2.ensures c.in_ok-word.was in
+    let value = number-told 32 c.args.c.now _ c.word32_number.ensures c.in_ok-value.was in
+    rw (is, cpu.0, word.0, value.0) (λ i. Store (cpu.1 i) (word.1 i) (value.1 i))
