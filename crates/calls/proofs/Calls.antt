@@ -128,10 +128,6 @@ module _ (m : Machine) (cpu : ℕ) where
   unfolding counted with_cpus
   same-waiting = refl
 
-  pub same-ids : (counted call_counter cpu m).live_ids ≡ m.live_ids
-  unfolding counted with_cpus
-  same-ids = refl
-
   pub with-sets : (cells : CellSets) → Sets cells m → length m.comms ≡ max_cells → WithSets cells (counted call_counter cpu m)
   unfolding counted with_cpus
   with-sets cells s size = record { sets = same-sets cells m (counted call_counter cpu m) refl refl s; size = size }

@@ -99,14 +99,6 @@ module _ (new : CellConfig) (m : Machine) (o : Option ℕ) (is : o ≡ new_id ne
       go true = refl
       go false = refl
 
--- a refusal gives no ID
-pub no-ok : {B : Type 0} (why : Errno) (id : ℕ) → ◌≡◌ {A = Result ℕ Errno} (Err why) (Ok id) → B
-no-ok why id q = absurd (let z : ◌≡◌ {A = ℕ} 0 1 = ap kind q in omega arith)
-  where
-    kind : Result ℕ Errno → ℕ
-    kind (Err w) = 0
-    kind (Ok n) = 1
-
 -- ---- the rules, by what is found of the machine's parts and of the record's bytes
 
 pub invalid-is : (bytes : List ℕ) (m : Machine) (cpus : ℕ) (valid inside : Bool) → cpus ≡ (cell_of bytes).cpus
