@@ -55,6 +55,13 @@ pub equal-leb : (a b c d : ℕ) → (a ≤ b → c ≤ d) → (c ≤ d → a ≤
 equal-leb a b c d f g =
     equal-tests (leb a b) (leb c d) (λ t. le→leb c d (f (leb→le a b t))) (λ t. le→leb a b (g (leb→le c d t)))
 
+-- two comparisons together are a third where they give it and it gives each
+pub both-leb : (a b c d e f : ℕ) → (a ≤ b → c ≤ d → e ≤ f) → (e ≤ f → a ≤ b) → (e ≤ f → c ≤ d) → (leb a b && leb c d) ≡ leb e f
+both-leb a b c d e f p q r =
+    equal-tests (leb a b && leb c d) (leb e f)
+    (λ t. le→leb e f (p (leb→le a b (and_left (leb a b) (leb c d) t)) (leb→le c d (and_right (leb a b) (leb c d) t))))
+    (λ t. and_intro (leb a b) (leb c d) (le→leb a b (q (leb→le e f t))) (le→leb c d (r (leb→le e f t))))
+
 pub le-or-lt : (a b : ℕ) → (a ≤ b) ⊎ (b < a)
 le-or-lt a b = by-test (leb a b) refl
   where

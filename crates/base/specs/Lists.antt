@@ -17,6 +17,7 @@ module _ {A : Type 0} where
   pairwise p [] = true
   pairwise p (x ∷ xs) = all (p x) xs && pairwise p xs
 
+module _ {ℓ} {A : Type ℓ} where
   -- the n elements that begin at place `at`
   abbrev pub part : ℕ → ℕ → List A → List A
   part at n xs = take n (drop at xs)
