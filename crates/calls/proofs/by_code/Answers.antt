@@ -41,16 +41,16 @@ pub returns-in-HypervisorGetInfo : goal.returns-in-HypervisorGetInfo
 returns-in-HypervisorGetInfo c =
     let m = c.args.m.now in
     at-call m _ _ _ _ _ c.in-HypervisorGetInfo.is
-    (calls_by m _ _ c.told.ensures (same-waiting m _) (ap (λ (z : ℤ). ends z (counted call_counter c.args.cpu m)) (c.get_info.ensures ∙ same-info m _ _) ∙ code-info _ c.args.a1 c.args.a2 _ _))
+    (calls_by m _ _ c.told.ensures (same-waiting m _) (ap (λ (z : ℤ). ends z (counted call_counter c.args.cpu m)) (c.get_info.ensures.code ∙ same-info m _ _) ∙ code-info _ c.args.a1 c.args.a2 _ _))
 
 pub returns-in-CellGetState : goal.returns-in-CellGetState
 returns-in-CellGetState c =
     let m = c.args.m.now in
     at-call m _ _ _ _ _ c.in-CellGetState.is
-    (calls_by m _ _ c.told-in-CellGetState.ensures (same-waiting m _) (ap (λ (z : ℤ). ends z (counted call_counter c.args.cpu m)) (c.get_state.ensures ∙ same-state m _ _) ∙ code-state _ c.args.a1 c.args.a2 _ _))
+    (calls_by m _ _ c.told-in-CellGetState.ensures (same-waiting m _) (ap (λ (z : ℤ). ends z (counted call_counter c.args.cpu m)) (c.get_state.ensures.code ∙ same-state m _ _) ∙ code-state _ c.args.a1 c.args.a2 _ _))
 
 pub returns-in-CpuGetInfo : goal.returns-in-CpuGetInfo
 returns-in-CpuGetInfo c =
     let m = c.args.m.now in
     at-call m _ _ _ _ _ c.in-CpuGetInfo.is
-    (calls_by m _ _ c.told-in-CpuGetInfo.ensures (same-waiting m _) (ap (λ (z : ℤ). ends z (counted call_counter c.args.cpu m)) c.cpu_get_info.ensures ∙ code-cpu _ c.args.a1 c.args.a2 _ _))
+    (calls_by m _ _ c.told-in-CpuGetInfo.ensures (same-waiting m _) (ap (λ (z : ℤ). ends z (counted call_counter c.args.cpu m)) c.cpu_get_info.ensures.code ∙ code-cpu _ c.args.a1 c.args.a2 _ _))

@@ -9,9 +9,9 @@ use Rattle.rules.specs.Queries.{cpu_get_info}
 use Rattle.queries.proofs.Laws.{answers, in-table, caller-counted, asked-counted, counted-cell}
 use Rattle.queries.proofs.cpu_get_info.Goals as goal
 
-pub returns-then-not-contains : goal.returns-then-not-contains
+pub returns-then-not-contains-clause-code : goal.returns-then-not-contains-clause-code
 unfolding cpu_get_info counted with_cpus
-returns-then-not-contains c = answers _ _ _ _ _ (ap not (sym c.contains.ensures ∙ c.if-not-contains.true)) refl
+returns-then-not-contains-clause-code c = answers _ _ _ _ _ (ap not (sym c.contains.ensures ∙ c.if-not-contains.true)) refl
 
 pub offset_bounds-m-asked : goal.offset_bounds-m-asked
 offset_bounds-m-asked c = let inside = in-table _ _ _ c.contains.ensures c.if-not-contains.false in record { fits = omega (arith, inside) }
@@ -19,18 +19,18 @@ offset_bounds-m-asked c = let inside = in-table _ _ _ c.contains.ensures c.if-no
 pub bounds-m-asked : goal.bounds-m-asked
 bounds-m-asked c = in-table _ _ _ c.contains.ensures c.if-not-contains.false
 
-pub returns-then-asked-caller : goal.returns-then-asked-caller
+pub returns-then-asked-caller-clause-code : goal.returns-then-asked-caller-clause-code
 unfolding counted with_cpus
-returns-then-asked-caller c =
+returns-then-asked-caller-clause-code c =
     let m = c.args.m.now in
     let t = c.if-asked-caller.true in
-    c.cpu_figure.ensures _ _ _ (counted-cell m _ ∙ sym c.owner-cell.ensures)
+    c.cpu_figure.ensures.code _ _ _ (counted-cell m _ ∙ sym c.owner-cell.ensures)
     (ap (cpu_at (counted call_counter _ m)) t ∙ caller-counted m _ _ (ap (cpu_at m) (sym t)) ∙ sym c.change_cpu-own.ensures)
     (sym c.contains.ensures ∙ c.if-not-contains.false)
 
-pub returns : goal.returns
+pub returns-clause-code : goal.returns-clause-code
 unfolding counted with_cpus
-returns c =
+returns-clause-code c =
     let m = c.args.m.now in
-    c.cpu_figure-2.ensures _ _ _ (counted-cell m _ ∙ sym c.owner-cell.ensures) (asked-counted m _ _ refl _ c.if-asked-caller.false)
+    c.cpu_figure-2.ensures.code _ _ _ (counted-cell m _ ∙ sym c.owner-cell.ensures) (asked-counted m _ _ refl _ c.if-asked-caller.false)
     (sym c.contains.ensures ∙ c.if-not-contains.false)

@@ -13,41 +13,41 @@ offset_bounds-m-id c = let inside = live-inside _ _ _ c.is_live.ensures c.if-not
 pub bounds-m-id : goal.bounds-m-id
 bounds-m-id c = live-inside _ _ _ c.is_live.ensures c.if-not-is_live.false
 
-pub returns-then-id-eq0 : goal.returns-then-id-eq0
+pub returns-then-id-eq0-clause-code : goal.returns-then-id-eq0-clause-code
 unfolding get_state
-returns-then-id-eq0 c = answers _ _ _ _ _ (eq-eqb _ _ c.if-id-eq0.true) refl
+returns-then-id-eq0-clause-code c = answers _ _ _ _ _ (eq-eqb _ _ c.if-id-eq0.true) refl
 
-pub returns-then-not-is_live : goal.returns-then-not-is_live
+pub returns-then-not-is_live-clause-code : goal.returns-then-not-is_live-clause-code
 unfolding get_state
-returns-then-not-is_live c = passes _ _ _ _ (ne_eqb _ _ c.if-id-eq0.false) (answers _ _ _ _ _ (ap not (sym c.is_live.ensures ∙ c.if-not-is_live.true)) refl)
+returns-then-not-is_live-clause-code c = passes _ _ _ _ (ne_eqb _ _ c.if-id-eq0.false) (answers _ _ _ _ _ (ap not (sym c.is_live.ensures ∙ c.if-not-is_live.true)) refl)
 
-pub returns-then-state : goal.returns-then-state
+pub returns-then-state-clause-code : goal.returns-then-state-clause-code
 unfolding get_state
-returns-then-state c =
+returns-then-state-clause-code c =
     passes _ _ _ _ (ne_eqb _ _ c.if-id-eq0.false)
     (passes _ _ _ _ (ap not (sym c.is_live.ensures ∙ c.if-not-is_live.false))
     (answers _ _ _ _ _ c.if-state.true refl))
 
-pub returns-then-state-eq-SHUT_DOWN : goal.returns-then-state-eq-SHUT_DOWN
+pub returns-then-state-eq-SHUT_DOWN-clause-code : goal.returns-then-state-eq-SHUT_DOWN-clause-code
 unfolding get_state
-returns-then-state-eq-SHUT_DOWN c =
+returns-then-state-eq-SHUT_DOWN-clause-code c =
     passes _ _ _ _ (ne_eqb _ _ c.if-id-eq0.false)
     (passes _ _ _ _ (ap not (sym c.is_live.ensures ∙ c.if-not-is_live.false))
     (passes _ _ _ _ (c.if-state.false)
     (answers _ _ _ _ _ (eq-eqb _ _ c.if-state-eq-SHUT_DOWN.true) refl)))
 
-pub returns-then-state-eq-FAILED : goal.returns-then-state-eq-FAILED
+pub returns-then-state-eq-FAILED-clause-code : goal.returns-then-state-eq-FAILED-clause-code
 unfolding get_state
-returns-then-state-eq-FAILED c =
+returns-then-state-eq-FAILED-clause-code c =
     passes _ _ _ _ (ne_eqb _ _ c.if-id-eq0.false)
     (passes _ _ _ _ (ap not (sym c.is_live.ensures ∙ c.if-not-is_live.false))
     (passes _ _ _ _ (c.if-state.false)
     (passes _ _ _ _ (ne_eqb _ _ c.if-state-eq-SHUT_DOWN.false)
     (answers _ _ _ _ _ (eq-eqb _ _ c.if-state-eq-FAILED.true) refl))))
 
-pub returns : goal.returns
+pub returns-clause-code : goal.returns-clause-code
 unfolding get_state
-returns c =
+returns-clause-code c =
     passes _ _ _ _ (ne_eqb _ _ c.if-id-eq0.false)
     (passes _ _ _ _ (ap not (sym c.is_live.ensures ∙ c.if-not-is_live.false))
     (passes _ _ _ _ (c.if-state.false)
