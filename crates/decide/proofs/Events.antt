@@ -18,7 +18,9 @@ use Rattle.rules.specs.Calls.{call}
 use Rattle.rules.specs.Unobeyed.{unobeyed}
 use Rattle.rules.specs.Step.{obeyed, step}
 use Rattle.cpu_table.specs.declared.CpuChange.TheVariants as CpuChange
-use Rattle.cpu_table.specs.CpuTable.{change_of, touched}
+use Rattle.cpu_table.specs.CpuTable.{change_of, touched, cpu_index}
+use Rattle.cpu_table.proofs.Laws.{cpu-inside}
+use Rattle.comms.specs.Comms.{Index}
 use Rattle.asking.specs.declared.Move.{Move}
 use Rattle.asking.specs.Moves.{moved, cut_off_at}
 use Rattle.polling.specs.declared.Polled.{Polled}
@@ -28,6 +30,10 @@ use Rattle.calls.specs.Calls.{Calls}
 use Rattle.decide.specs.declared.Decision.{Decision}
 use Rattle.decide.specs.Decide.{settled, Settles}
 use Rattle.decide.proofs.Laws.{kept-cpu}
+
+-- a CPU that the table has is its own place there
+pub own-place : (cpu place : ℕ) → cpu < max_cpus → Index (cpu_index cpu) max_cpus place → place ≡ cpu
+own-place cpu place h r = r.is ∙ cpu-inside cpu h
 
 module _ (m : Machine) (bytes : List ℕ) where
   -- the event that an arm knows

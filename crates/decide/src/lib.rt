@@ -108,11 +108,12 @@ fn obey(m: &Machine, e: Event, record: &[u8]) -> Decision
     match e {
         Event::Call(cpu, code, a1, a2) => {
             let moves = calls::call(m, cpu, code, a1, a2, record);
-            uncut(cpu as usize, CpuChange::Count(CALL_COUNTER), moves)
+            let place = cpu_table::cpu_index(cpu);
+            uncut(place, CpuChange::Count(CALL_COUNTER), moves)
         }
-        Event::Store(cpu, word, value) => store(m, cpu as usize, word, value),
-        Event::Fault(cpu) => fault(m, cpu as usize),
-        Event::Exit(cpu, kind) => exit(m, cpu as usize, kind),
+        Event::Store(cpu, word, value) => store(m, cpu_table::cpu_index(cpu), word, value),
+        Event::Fault(cpu) => fault(m, cpu_table::cpu_index(cpu)),
+        Event::Exit(cpu, kind) => exit(m, cpu_table::cpu_index(cpu), kind),
         Event::Poll => {
             let polled = polling::poll(m);
             Decision {

@@ -100,7 +100,7 @@ pub fn cpu_get_info(m: &Machine, caller: u64, asked: u64, kind: u64) -> Result<u
         return Err(Errno::Invalid);
     }
     let cell = cpu_table::owner(&m.cpus, caller);
-    let q = m.cpus[asked as usize];
+    let q = m.cpus[cpu_table::cpu_index(asked)];
     if asked == caller {
         let own = cpu_table::change_cpu(q, CpuChange::Count(CALL_COUNTER));
         return cpu_figure(cell, &own, kind);
