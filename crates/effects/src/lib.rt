@@ -187,7 +187,6 @@ pub fn words_after(kind: CallKind, new: Figures, w: CommRegion) -> CommRegion
 }
 
 // What is left of an effect after a change of one cell: Disable comes back until it has switched off.
-// No crate calls it: the laws that docs/CLAIMS.md names for "every effect, part by part" are about it.
 pub fn rest_of(effect: Effect) -> Effect
     ensures { result ≡ rest_of effect }
 {
@@ -208,8 +207,7 @@ fn effect_part(kind: CallKind, id: usize, live_ids: u16) -> Part
 }
 
 // The part that comes next, with `cpus` the CPUs that are still to be changed, `cut` the cell that is
-// still to be cut off, and `effect` what is still to come. No crate calls it: docs/CLAIMS.md promises
-// "every effect, part by part" by it, and by the laws `lowest-cell`, `none_left` and `cpu-applied` to `all-applied`.
+// still to be cut off, and `effect` what is still to come.
 pub fn next_part(cpus: u64, cut: Option<usize>, effect: Effect, live_ids: u16) -> Option<Part>
     ensures { IsNext cpus cut effect live_ids result }
 {
