@@ -51,7 +51,7 @@ fn on_cell(m: &mut Machine, kind: CallKind, id: usize, record: &[u8])
     cpu_table::change_cpus(numbers.cpus, numbers.how, &mut m.cpus);
     if id < MAX_CELLS {
         change_cell(&mut m.cells[id], kind, record);
-        m.comms[id] = effects::words_after(kind, new, m.comms[id]);
+        m.comms[id] = effects::words_after(kind, id, new, m.comms[id]);
     }
 }
 

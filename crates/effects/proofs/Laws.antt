@@ -1,6 +1,6 @@
 -- The effects by their parts are the rules' effects: each part is the rule's by its case, and a number that is no cell's changes nothing in the
 -- tables, since nothing stands past their end. Assumes nothing.
-use Rattle.std.proofs.Common.{◌≡◌, ℕ, ◌≤◌, true, false, List, length, sym, refl, ap, ◌∙◌}
+use Rattle.std.proofs.Common.{◌≡◌, ℕ, ◌<◌, ◌≤◌, true, false, List, length, sym, refl, ap, ◌∙◌, lt-ltb}
 use lib.Seq.{set_out}
 use Rattle.base.proofs.Tests.{fails}
 use Rattle.cell_record.specs.declared.CellConfig.{CellConfig}
@@ -10,12 +10,13 @@ use Rattle.machine_state.specs.declared.Cell.{Cell}
 use Rattle.machine_state.specs.declared.CallKind.{CallKind}
 use Rattle.machine_state.specs.declared.CallKind.TheVariants.{Disable, Create, Start, SetLoadable, Destroy}
 use Rattle.machine_state.specs.declared.Machine.{Machine}
+use Rattle.machine_state.specs.Machine.{max_cells}
 use Rattle.rules.specs.State.{cell_at, comm_at, with_pool, with_ids, with_root_cpus, with_cell, with_comm, with_cpus}
 use Rattle.rules.specs.Effects.{new_comm, cpus_changed, cell_created, in_phase, cell_started, cell_loadable, cell_destroyed, effect}
 use Rattle.cpu_table.specs.CpuTable.{change_of}
 use Rattle.effects.specs.declared.Figures.{Figures}
 use Rattle.effects.specs.declared.Numbers.{Numbers}
-use Rattle.effects.specs.Parts.{is_disable, figures_of, numbers_after, changed_cell, words_after, parts_stored, cpus_after}
+use Rattle.effects.specs.Parts.{is_disable, figures_of, numbers_after, changed_cell, within, words_after, parts_stored, cpus_after}
 
 -- ---- the parts of an effect
 
@@ -54,6 +55,11 @@ module _ (kind : CallKind) (id : ℕ) (new : CellConfig) (m : Machine) (f : Figu
       let words = is_words ∙ ap (words_there kind id new m) is_figures in
       let table = is_cpus ∙ ap (λ (x : Numbers). cpus_after x m.cpus) numbers in
       (λ i. parts_stored (numbers i) id (is_cell i) (words i) (table i) m) ∙ by_kind kind id new m e
+
+-- a cell of the tables
+pub within-here : {A : Type 0} (id : ℕ) (x y : A) → id < max_cells → within id x y ≡ x
+unfolding within
+within-here id x y h = rw (lt-ltb id max_cells h, within)
 
 -- a number past the tables' end has no place there: neither a cell nor words are stored
 pub none-stored : (n : Numbers) (id : ℕ) (c : Cell) (w : CommRegion) (cpus : List Cpu) (m : Machine) → length m.cells ≤ id → length m.comms ≤ id

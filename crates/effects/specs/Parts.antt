@@ -1,6 +1,6 @@
 -- The rules' effects, part by part: what stands in each part of the machine after the effect of a call on one cell. `Laws.stored-is-effect`
 -- says that these parts, stored at the cell, make the rule's machine.
-use Rattle.std.specs.Prelude.{ℕ, ◌+◌, ◌-◌, ◌%◌, ◌^◌, Bool, true, false, List, slice_set}
+use Rattle.std.specs.Prelude.{ℕ, ◌+◌, ◌-◌, ◌%◌, ◌^◌, nat_lt, Bool, true, false, List, slice_set}
 use Rattle.base.specs.Lists.{any}
 use Rattle.cpu_set.specs.CpuSet.{union, without}
 use Rattle.regions.specs.Regions.{comm}
@@ -13,7 +13,7 @@ use Rattle.machine_state.specs.declared.Cell.{Cell}
 use Rattle.machine_state.specs.declared.CallKind.{CallKind}
 use Rattle.machine_state.specs.declared.CallKind.TheVariants.{Disable, Create, Start, SetLoadable, Destroy}
 use Rattle.machine_state.specs.declared.Machine.{Machine}
-use Rattle.machine_state.specs.Machine.{no_comm, no_cell}
+use Rattle.machine_state.specs.Machine.{max_cells, no_comm, no_cell}
 use Rattle.rules.specs.State.{root_id, shut_down}
 use Rattle.rules.specs.Effects.{add_id, drop_id, pool_cost, new_cell, with_phase, with_state, clear_words, change_cpus}
 use Rattle.cpu_table.specs.declared.CpuChange.TheVariants as Change
@@ -27,6 +27,10 @@ is_disable Create = false
 is_disable Start = false
 is_disable SetLoadable = false
 is_disable Destroy = false
+
+-- one of two things, by whether the tables have a cell
+unfoldable pub within : {A : Type 0} → ℕ → A → A → A
+within id x y = elim (nat_lt id max_cells) [ true ↦ x | false ↦ y ]
 
 -- what a record says that Create's effect needs beside the cell itself
 abbrev pub figures_of : CellConfig → Figures

@@ -6,7 +6,7 @@ ghost use Rattle.cell_record.specs.CellRecord.{cell_of};
 ghost use Rattle.rules.specs.State.{cell_at};
 ghost use Rattle.rules.specs.Effects.{pool_cost, new_cell, clear_words};
 ghost use Rattle.effects.specs.Applying.{rest_of, EffectPart, IsNext};
-ghost use Rattle.effects.specs.Parts.{is_disable, figures_of, numbers_after, new_words, words_after};
+ghost use Rattle.effects.specs.Parts.{is_disable, figures_of, numbers_after, new_words, within, words_after};
 
 use asking::Effect;
 use comms::WordsChange;
@@ -172,11 +172,14 @@ fn clear_words(w: CommRegion) -> CommRegion
     }
 }
 
-// The words of a cell after an effect on it.
-#[tactic(auto, unfolding(comms::specs::Comms::words_of, rules::specs::Effects::store_word))]
-pub fn words_after(kind: CallKind, new: Figures, w: CommRegion) -> CommRegion
-    ensures { result ≡ words_after kind new w }
+// The words of cell `id` after an effect on it; those of a cell past the tables' end stay.
+#[tactic(auto, unfolding(crate::specs::Parts::within, comms::specs::Comms::words_of, rules::specs::Effects::store_word))]
+pub fn words_after(kind: CallKind, id: usize, new: Figures, w: CommRegion) -> CommRegion
+    ensures { result ≡ within id (words_after kind new w) w }
 {
+    if MAX_CELLS <= id {
+        return w;
+    }
     match kind {
         CallKind::Disable => w,
         CallKind::Create => new_comm(new),
