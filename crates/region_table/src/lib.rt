@@ -67,15 +67,15 @@ pub fn all_apart(regions: &[MemRegion]) -> bool
         .all(|(i, r)| apart_from(&regions[..i], *r))
 }
 
-// The first `n` regions of a record, from byte `base` on, in a table.
+// The first `n` regions of a record, from byte `base` on, in a table. Not by `from_fn`, with which a place
+// that is not used costs as much as one that is: most records have few regions.
 pub fn table_of<const N: usize>(s: &[u8], base: u16, n: u16) -> [MemRegion; N]
     ensures { result ≡ table_of N base n s.now }
 {
-    std::array::from_fn(|i| {
-        if i < n as usize {
-            region_at(s, base as usize + 32 * i)
-        } else {
-            no_region()
-        }
-    })
+    let mut table = [no_region(); N];
+    let used = (n as usize).min(N);
+    for i in 0..used {
+        table[i] = region_at(s, base as usize + 32 * i);
+    }
+    table
 }
