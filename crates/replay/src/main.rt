@@ -53,45 +53,44 @@ fn write_answers<W: Write>(to: &mut W, answers: &[u8]) -> Result<(), Failure> {
     streams::write_all(to, answers).map_err(|e| Failure::NotWritten(e.why))
 }
 
-// Replays a piece of the log and writes the answers. Gives the replay to go on with, and nothing where
-// no more of the piece is taken.
+// Replays a piece of the log and writes the answers. Gives whether the replay goes on, which it does not
+// where no more of the piece is taken.
 fn replay_piece<W: Write>(
     to: &mut W,
-    from: Replay,
+    replay: &mut Replay,
     log: &[u8],
     out: &mut [u8],
-) -> Result<Option<Replay>, Failure> {
-    let mut replay = from;
+) -> Result<bool, Failure> {
     let mut rest = log;
     // A run says how much of the piece it took.
     while !rest.is_empty() {
-        let ran = replay_log::run(replay, rest, out);
+        let ran = replay_log::run(*replay, rest, out);
+        *replay = ran.replay;
         write_answers(to, &out[..ran.written])?;
         if ran.taken == 0 {
-            return Ok(None);
+            return Ok(false);
         }
-        replay = ran.replay;
         rest = &rest[ran.taken..];
     }
-    Ok(Some(replay))
+    Ok(true)
 }
 
 // Reads once and replays what came; at the end of the input, replays a last line without its line
-// feed, and gives nothing to go on with. An input that breaks off has no last line.
+// feed, and does not go on. An input that breaks off has no last line.
 fn replay_some<R: Read, W: Write>(
     input: &mut R,
     to: &mut W,
-    from: Replay,
+    replay: &mut Replay,
     piece: &mut [u8],
     out: &mut [u8],
-) -> Result<Option<Replay>, Failure> {
+) -> Result<bool, Failure> {
     match input.read(piece) {
         Ok(0) => {
-            let n = replay_log::finish(from, out);
+            let n = replay_log::finish(*replay, out);
             write_answers(to, out.get(..n).unwrap_or(out))?;
-            Ok(None)
+            Ok(false)
         }
-        Ok(n) => replay_piece(to, from, &piece[..n], out),
+        Ok(n) => replay_piece(to, replay, &piece[..n], out),
         Err(why) => Err(Failure::LogBroken(why)),
     }
 }
@@ -103,9 +102,8 @@ fn replay_all<R: Read, W: Write>(input: &mut R, to: &mut W, from: Replay) -> Res
     let mut out = [0u8; 65536];
     let mut replay = from;
     for _ in 0..u64::MAX {
-        match replay_some(input, to, replay, &mut piece, &mut out)? {
-            Some(next) => replay = next,
-            None => return Ok(()),
+        if !replay_some(input, to, &mut replay, &mut piece, &mut out)? {
+            return Ok(());
         }
     }
     Ok(())
