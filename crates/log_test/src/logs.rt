@@ -44,7 +44,7 @@ pub(crate) fn begin(m: &Machine, block: &Block) -> Made {
 }
 
 // The machine with a raw value in an exit counter, by a line `counter CPU COUNTER VALUE`.
-fn with_counter(m: &Machine, line: &str) -> Machine {
+fn with_counter(m: &Machine, line: &[u8]) -> Machine {
     let number = |k: usize| text::number_of(text::word(line, k)).value;
     let mut after = *m;
     let cpu = (number(1) % 64) as usize;
@@ -78,11 +78,11 @@ fn step_line(m: &Machine, line: &[u8]) -> Made {
 
 // Polls in a row, by a line `times N poll > ANSWER`: the machine after them and their answer, up to
 // the first that is not the one that is wanted.
-fn polls(m: &Machine, line: &str) -> Made {
+fn polls(m: &Machine, line: &[u8]) -> Made {
     let mut made = Made::silent(*m);
     for _ in 0..text::number_of(text::word(line, 1)).value {
         made = step_line(&made.machine, b"poll");
-        if made.answer() != cases::wanted(line) {
+        if made.answer().as_bytes() != cases::wanted(line) {
             return made;
         }
     }
@@ -98,11 +98,12 @@ pub(crate) struct Log<'a> {
 }
 
 impl<'a> Log<'a> {
-    // Without its last line feed.
+    // Without its last byte, which is a line feed unless the log fills its room.
     pub(crate) fn unended(&self) -> Log<'a> {
+        let (_, front) = self.bytes.split_last().unwrap_or((&0, b""));
         Log {
             start: self.start,
-            bytes: self.bytes.strip_suffix(b"\n").unwrap_or(self.bytes),
+            bytes: front,
             answers: self.answers,
         }
     }
@@ -111,8 +112,8 @@ impl<'a> Log<'a> {
     pub(crate) fn by_steps(&self) -> bool {
         let mut machine = *self.start;
         let mut left = self.answers;
-        for line in self.bytes.split_inclusive(|b| *b == b'\n') {
-            let made = step_line(&machine, line.strip_suffix(b"\n").unwrap_or(line));
+        for line in self.bytes.split_inclusive(text::is_feed) {
+            let made = step_line(&machine, text::unended(line));
             let Some(rest) = left.strip_prefix(made.written().as_bytes()) else {
                 return false;
             };

@@ -33,7 +33,7 @@ struct Progress {
 fn main(rt: HostRuntime) {
     let mut room = console::room::<262144>();
     let n = console::read_full(&mut rt.stdin(), &mut room);
-    console::print_line(&rt, blocks(&rt, Script(text::text_of(&room, n))));
+    console::print_line(&rt, blocks(&rt, Script(text::first(&room, n))));
 }
 
 // Every block of the script.
@@ -42,10 +42,15 @@ fn blocks(rt: &impl Print, script: Script) -> Tally {
         machine: machine_state::boot(b"").machine,
         tally: Tally::new(),
     };
-    for (i, head) in script.0.lines().enumerate() {
-        if (i == 0) | show::begins_log(head) {
-            progress.block(rt, &Block::at(script, i, head));
+    let mut left = script.0;
+    // A block has a byte at least.
+    for _ in 0..script.0.len() {
+        if left.is_empty() {
+            return progress.tally;
         }
+        let (block, behind) = Block::first(script, left);
+        progress.block(rt, &block);
+        left = behind;
     }
     progress.tally
 }

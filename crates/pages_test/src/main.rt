@@ -41,7 +41,7 @@ struct Progress {
 fn main(rt: HostRuntime) {
     let mut room = console::room::<65536>();
     let n = console::read_full(&mut rt.stdin(), &mut room);
-    console::print_line(&rt, run(&rt, Script(text::text_of(&room, n))));
+    console::print_line(&rt, run(&rt, Script(text::first(&room, n))));
 }
 
 // Every line of the script.
@@ -50,20 +50,20 @@ fn run(rt: &impl Print, script: Script) -> Tally {
         machine: machine_state::boot(b"").machine,
         tally: Tally::new(),
     };
-    for line in script.0.lines() {
-        progress.take(rt, &script, line);
+    for line in script.0.split_inclusive(text::is_feed) {
+        progress.take(rt, &script, text::unended(line));
     }
     progress.tally
 }
 
 impl Progress {
     // One line: a remark, a record, a boot, a question or an event.
-    fn take(&mut self, rt: &impl Print, script: &Script, line: &str) {
+    fn take(&mut self, rt: &impl Print, script: &Script, line: &[u8]) {
         if text::is_remark(line) {
-            console::print_line(rt, line);
-        } else if line.starts_with("record ") {
+            cases::print_as_is(rt, line);
+        } else if line.starts_with(b"record ") {
             self.tally.record_line(rt, script, line);
-        } else if line.starts_with("boot @") {
+        } else if line.starts_with(b"boot @") {
             self.boot(rt, script, line);
         } else if questions::is_question(text::word(line, 0)) {
             self.ask(rt, line);
@@ -73,7 +73,7 @@ impl Progress {
     }
 
     // A boot, which is an error where not all of the record can be read.
-    fn boot(&mut self, rt: &impl Print, script: &Script, line: &str) {
+    fn boot(&mut self, rt: &impl Print, script: &Script, line: &[u8]) {
         let named = script.record_at(text::word(cases::asked(line), 1));
         let booted = machine_state::boot(named.record.bytes());
         self.machine = booted.machine;
@@ -85,7 +85,7 @@ impl Progress {
     }
 
     // A question, which changes nothing.
-    fn ask(&mut self, rt: &impl Print, line: &str) {
+    fn ask(&mut self, rt: &impl Print, line: &[u8]) {
         match Question::read(cases::asked(line)) {
             Some(question) => {
                 let reply = question.reply(&self.machine);
@@ -96,7 +96,7 @@ impl Progress {
     }
 
     // An event, by the entry for the shim. A malformed line is an error here.
-    fn event(&mut self, rt: &impl Print, script: &Script, line: &str) {
+    fn event(&mut self, rt: &impl Print, script: &Script, line: &[u8]) {
         let mut bytes = ArrayVec::<u8, MAX_LINE>::new();
         let whole = expand::expand(&mut bytes, script, cases::asked(line));
         let mut record = [0; MAX_RECORD];

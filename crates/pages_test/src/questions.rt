@@ -22,17 +22,17 @@ pub(crate) enum Question {
 }
 
 // Whether a line's first word is a question's.
-pub(crate) fn is_question(word: &str) -> bool {
+pub(crate) fn is_question(word: &[u8]) -> bool {
     matches!(
         word,
-        "owner" | "touch" | "map" | "word" | "read" | "leaf" | "count" | "free"
+        b"owner" | b"touch" | b"map" | b"word" | b"read" | b"leaf" | b"count" | b"free"
     )
 }
 
 // The numbers that words are; nothing where one is none, or where there are more than a question has.
-fn numbers(words: &str) -> Option<ArrayVec<u64, NUMBERS>> {
+fn numbers(words: &[u8]) -> Option<ArrayVec<u64, NUMBERS>> {
     let mut numbers = ArrayVec::new();
-    for word in words.split(' ') {
+    for word in words.split(|byte| *byte == b' ') {
         let number = text::number_of(word);
         if !number.whole {
             return None;
@@ -44,34 +44,34 @@ fn numbers(words: &str) -> Option<ArrayVec<u64, NUMBERS>> {
 
 impl Question {
     // The question of a line; nothing where it cannot be read.
-    pub(crate) fn read(line: &str) -> Option<Question> {
-        let (word, words) = line.split_once(' ')?;
+    pub(crate) fn read(line: &[u8]) -> Option<Question> {
+        let (word, words) = text::cut_at(line, b' ')?;
         let numbers = numbers(words)?;
         match numbers.as_slice() {
             [a] => Question::of_one(word, *a),
             [a, b] => Question::of_two(word, *a, *b),
-            [leaf, eax, ebx, ecx, edx] if word == "leaf" => {
+            [leaf, eax, ebx, ecx, edx] if word == b"leaf".as_slice() => {
                 Question::of_leaf(*leaf, [*eax, *ebx, *ecx, *edx])
             }
             _ => None,
         }
     }
 
-    fn of_one(word: &str, a: u64) -> Option<Question> {
+    fn of_one(word: &[u8], a: u64) -> Option<Question> {
         match word {
-            "owner" => Some(Question::Owner(PhysPage(a))),
-            "touch" => Some(Question::Touch(PhysPage(a))),
-            "count" => Some(Question::Count(a)),
-            "free" => Some(Question::Free(u16::try_from(a).ok()?)),
+            b"owner" => Some(Question::Owner(PhysPage(a))),
+            b"touch" => Some(Question::Touch(PhysPage(a))),
+            b"count" => Some(Question::Count(a)),
+            b"free" => Some(Question::Free(u16::try_from(a).ok()?)),
             _ => None,
         }
     }
 
-    fn of_two(word: &str, cell: u64, b: u64) -> Option<Question> {
+    fn of_two(word: &[u8], cell: u64, b: u64) -> Option<Question> {
         match word {
-            "map" => Some(Question::Map(cell, CellPage(b))),
-            "word" => Some(Question::Word(cell, b)),
-            "read" => Some(Question::Byte(cell, b)),
+            b"map" => Some(Question::Map(cell, CellPage(b))),
+            b"word" => Some(Question::Word(cell, b)),
+            b"read" => Some(Question::Byte(cell, b)),
             _ => None,
         }
     }

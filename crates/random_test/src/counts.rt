@@ -1,7 +1,7 @@
 // How often each kind of answer came. The script's lines `answer ..` name the kinds in this order.
 use crate::lines_made::nth;
 use machine_state::Answer;
-use test_support::console::print_line;
+use test_support::console;
 use test_support::names::Script;
 
 // The kinds of answers: to calls, to other events, why an event is not obeyed, and to boots. No other
@@ -99,10 +99,10 @@ impl Counts {
     // Each kind with its count. Each that document 01 names has to come, and no other may.
     pub(crate) fn print(&self, rt: &impl Print, script: &Script) {
         for (kind, n) in self.0.iter().enumerate() {
-            let name = nth(script, "answer", kind);
+            console::print_bytes(rt, nth(script, b"answer", kind));
             let comes = kind != Kind::Other as usize;
             let mark = if comes == (*n == 0) { "   WRONG" } else { "" };
-            print_line(rt, format_args!("{name}: {n}{mark}"));
+            console::print_line(rt, format_args!(": {n}{mark}"));
         }
     }
 }

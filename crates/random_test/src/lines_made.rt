@@ -16,28 +16,39 @@ use test_support::{expand, text};
 pub(crate) const LOG: usize = MAX_LINE + 1;
 
 // What a line says behind its first word, where that is `word`.
-fn said<'a>(line: &'a str, word: &str) -> Option<&'a str> {
+fn said<'a>(line: &'a [u8], word: &[u8]) -> Option<&'a [u8]> {
     let (first, behind) = text::first_word(line);
     (first == word).then_some(behind)
 }
 
 // Of the script's lines that begin with `word`, the `k`-th from 0, without that word.
-pub(crate) fn nth<'a>(script: &Script<'a>, word: &str, k: usize) -> &'a str {
-    let mut lines = script.0.lines().filter_map(|line| said(line, word));
-    lines.nth(k).unwrap_or("")
+pub(crate) fn nth<'a>(script: &Script<'a>, word: &[u8], k: usize) -> &'a [u8] {
+    let lines = script.0.split(text::is_feed);
+    lines
+        .filter_map(|line| said(line, word))
+        .nth(k)
+        .unwrap_or(b"")
 }
 
-// How many templates a script has.
+// How many templates are thrown: those before the first that has no words, and 1000 at most.
 pub(crate) fn templates(script: &Script) -> u64 {
-    let lines = script.0.lines();
-    lines.filter(|line| said(line, "line").is_some()).count() as u64
+    let lines = script.0.split(text::is_feed);
+    lines
+        .filter_map(|line| said(line, b"line"))
+        .take_while(|template| !template.is_empty())
+        .take(1000)
+        .count() as u64
 }
 
 // Word `k` of a list, counted round.
-pub(crate) fn of_list<'a>(script: &Script<'a>, name: &str, k: usize) -> &'a str {
-    let words = script.said_of("list", name).unwrap_or("");
-    let n = words.split(' ').count();
-    if n == 0 { "" } else { text::word(words, k % n) }
+pub(crate) fn of_list<'a>(script: &Script<'a>, name: &[u8], k: usize) -> &'a [u8] {
+    let words = script.said_of(b"list", name).unwrap_or(b"");
+    let n = words.split(|byte| *byte == b' ').count();
+    if n == 0 {
+        b""
+    } else {
+        text::word(words, k % n)
+    }
 }
 
 // A record with another byte, another length, or far too long.
@@ -53,15 +64,19 @@ fn damaged(dice: Dice, record: Record) -> Record {
 }
 
 // Writes a word of a template, a record by its name, behind what is written.
-fn put_word<const N: usize>(out: &mut ArrayVec<u8, N>, script: &Script, word: &str, dice: Dice) {
-    let picked = |name: &str| of_list(script, name, dice.below(1000) as usize);
-    if let Some(name) = word.strip_prefix('$') {
-        let _ = out.write(picked(name).as_bytes());
-    } else if let Some(name) = word.strip_prefix('~') {
-        let named = script.record_at(picked(name));
-        expand::put_record(out, &damaged(dice.thrown(), named.record));
-    } else {
-        let _ = out.write(word.as_bytes());
+fn put_word<const N: usize>(out: &mut ArrayVec<u8, N>, script: &Script, word: &[u8], dice: Dice) {
+    let picked = |name: &[u8]| of_list(script, name, dice.below(1000) as usize);
+    match word.split_first() {
+        Some((b'$', name)) => {
+            let _ = out.write(picked(name));
+        }
+        Some((b'~', name)) => {
+            let named = script.record_at(picked(name));
+            expand::put_record(out, &damaged(dice.thrown(), named.record));
+        }
+        _ => {
+            let _ = out.write(word);
+        }
     }
 }
 
@@ -74,12 +89,13 @@ pub(crate) fn line<const N: usize>(
 ) -> Dice {
     let mut words = ArrayVec::<u8, LOG>::new();
     let mut next = dice.thrown();
-    for word in nth(script, "line", dice.below(templates) as usize).split(' ') {
+    let template = nth(script, b"line", dice.below(templates) as usize);
+    for word in template.split(|byte| *byte == b' ') {
         put_word(&mut words, script, word, next);
         let _ = words.write(b" ");
         next = next.thrown().thrown().thrown();
     }
-    let bytes = text::text_of(words.as_slice(), words.len().saturating_sub(1));
+    let bytes = text::first(words.as_slice(), words.len().saturating_sub(1));
     let _ = expand::expand(out, script, bytes);
     let _ = out.write(b"\n");
     next

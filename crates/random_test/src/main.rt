@@ -45,7 +45,7 @@ struct Run<'a> {
 fn main(rt: HostRuntime) {
     let mut room = console::room::<65536>();
     let n = console::read_full(&mut rt.stdin(), &mut room);
-    let script = Script(text::text_of(&room, n));
+    let script = Script(text::first(&room, n));
     let mut run = Run {
         script,
         templates: lines_made::templates(&script),
@@ -79,7 +79,7 @@ impl<'a> Run<'a> {
 
     // The next machine: the script's list `system` has the records, some of which are refused.
     fn boot(&self, k: usize) -> Booted {
-        let word = lines_made::of_list(&self.script, "system", k);
+        let word = lines_made::of_list(&self.script, b"system", k);
         machine_state::boot(self.script.record_at(word).record.bytes())
     }
 
@@ -105,11 +105,13 @@ impl<'a> Run<'a> {
         let mut log = ArrayVec::<u8, LOG>::new();
         self.dice = lines_made::line(&mut log, &self.script, self.templates, self.dice);
         let line = log.as_slice();
-        let stepped = by_shim(before, line.strip_suffix(b"\n").unwrap_or(line));
+        // Without its last byte, which is a line feed unless the line fills its room.
+        let (_, said) = line.split_last().unwrap_or((&0, b""));
+        let stepped = by_shim(before, said);
         if let Err(claim) = claims::hold(before, &stepped, line) {
-            let name = nth(&self.script, "claim", claim as usize);
-            let told = text::text_of(line, line.len());
-            console::print(rt, format_args!("{name}: {told}"));
+            console::print_bytes(rt, nth(&self.script, b"claim", claim as usize));
+            console::print(rt, ": ");
+            console::print_bytes(rt, line);
             self.broken = self.broken.saturating_add(1);
         }
         stepped

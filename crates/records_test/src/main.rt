@@ -29,45 +29,45 @@ struct Kept {
 fn main(rt: HostRuntime) {
     let mut room = console::room::<65536>();
     let n = console::read_full(&mut rt.stdin(), &mut room);
-    console::print_line(&rt, run(&rt, text::text_of(&room, n)));
+    console::print_line(&rt, run(&rt, text::first(&room, n)));
 }
 
 // Every line of the table.
-fn run(rt: &impl Print, table: &str) -> Tally {
+fn run(rt: &impl Print, table: &[u8]) -> Tally {
     let mut kept = Kept {
         system: Record::empty(),
         cell: Record::empty(),
         boot: Record::empty(),
         tally: Tally::new(),
     };
-    for line in table.lines() {
-        kept.read(rt, line);
+    for line in table.split_inclusive(text::is_feed) {
+        kept.read(rt, text::unended(line));
     }
     kept.tally
 }
 
 // What the words of a line, between its label and its answer, make of a record.
-fn built(base: &Record, line: &str) -> Built {
-    let (_, words) = cases::asked(line).split_once(':').unwrap_or(("", ""));
+fn built(base: &Record, line: &[u8]) -> Built {
+    let (_, words) = text::cut_at(cases::asked(line), b':').unwrap_or((b"", b""));
     words::build(base, words)
 }
 
 impl Kept {
     // One line.
-    fn read(&mut self, rt: &impl Print, line: &str) {
-        if line.starts_with("system ") {
+    fn read(&mut self, rt: &impl Print, line: &[u8]) {
+        if line.starts_with(b"system ") {
             self.system(rt, line);
-        } else if line.starts_with("cell ") {
+        } else if line.starts_with(b"cell ") {
             self.cell(rt, line);
         } else if text::is_remark(line) {
-            console::print_line(rt, line);
+            cases::print_as_is(rt, line);
         } else {
             self.tally.unread(rt, line, "no reader has this name");
         }
     }
 
     // Boot's answer to the record of a line.
-    fn system(&mut self, rt: &impl Print, line: &str) {
+    fn system(&mut self, rt: &impl Print, line: &[u8]) {
         let built = built(&self.system, line);
         if built.keep {
             self.system = built.record;
@@ -80,7 +80,7 @@ impl Kept {
     }
 
     // The cell reader's answer in the system that was started.
-    fn cell(&mut self, rt: &impl Print, line: &str) {
+    fn cell(&mut self, rt: &impl Print, line: &[u8]) {
         let built = built(&self.cell, line);
         if built.keep {
             self.cell = built.record;

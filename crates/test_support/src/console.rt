@@ -32,3 +32,8 @@ pub fn print<D: Display + Drop>(rt: &impl Print, value: D) {
 pub fn print_line<D: Display + Drop>(rt: &impl Print, value: D) {
     let _ = rt.println(value);
 }
+
+// Prints a part of a script as it is: it may be no text.
+pub fn print_bytes(rt: &impl Print, bytes: &[u8]) {
+    let _ = rt.write_all(bytes);
+}

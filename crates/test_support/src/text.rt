@@ -1,13 +1,16 @@
-// The words and numbers of a text. What is not there is "", and no option: who asks for it compares it with
-// a text, reads it as a number or prints it.
+// The words and numbers of a text. The text of a script is any bytes: its lines end at line feeds alone. What
+// is not there is no bytes, and no option: who asks for it compares it with a text, reads it as a number or
+// prints it.
 use std::str;
 
-// The text that the first `n` bytes are; nothing where there are fewer, or where they are no text.
+// The first `n` bytes of a room, or all of them where there are fewer.
+pub fn first(bytes: &[u8], n: usize) -> &[u8] {
+    bytes.get(..n).unwrap_or(bytes)
+}
+
+// What a program of ours wrote to the start of a room, which is ASCII.
 pub fn text_of(bytes: &[u8], n: usize) -> &str {
-    match bytes.get(..n) {
-        Some(front) => str::from_utf8(front).unwrap_or(""),
-        None => "",
-    }
+    str::from_utf8(first(bytes, n)).unwrap_or("")
 }
 
 // The first line of a text, without its line feed.
@@ -15,14 +18,31 @@ pub fn first_line(s: &str) -> &str {
     s.lines().next().unwrap_or("")
 }
 
+// Whether a line ends at a byte.
+pub fn is_feed(byte: &u8) -> bool {
+    *byte == b'\n'
+}
+
+// A line without its line feed, if it has one.
+pub fn unended(line: &[u8]) -> &[u8] {
+    line.strip_suffix(b"\n").unwrap_or(line)
+}
+
+// What stands before the first byte of a kind, and what behind it.
+pub fn cut_at(s: &[u8], at: u8) -> Option<(&[u8], &[u8])> {
+    let end = s.iter().position(|byte| *byte == at)?;
+    let (front, rest) = s.split_at_checked(end)?;
+    Some((front, rest.get(1..)?))
+}
+
 // A text's first word, and what follows the space behind it.
-pub fn first_word(s: &str) -> (&str, &str) {
-    s.split_once(' ').unwrap_or((s, ""))
+pub fn first_word(s: &[u8]) -> (&[u8], &[u8]) {
+    cut_at(s, b' ').unwrap_or((s, b""))
 }
 
 // Word `k`, counted from 0; words stand between single spaces. Nothing where there are fewer.
-pub fn word(s: &str, k: usize) -> &str {
-    s.split(' ').nth(k).unwrap_or("")
+pub fn word(s: &[u8], k: usize) -> &[u8] {
+    s.split(|byte| *byte == b' ').nth(k).unwrap_or(b"")
 }
 
 // A number as far as it can be read, and whether the whole of its word is one. A flag, and no option:
@@ -58,14 +78,14 @@ pub fn digits(digits: &[u8], base: u64) -> Number {
 }
 
 // A word as a number: decimal, or after 0x hexadecimal in lower case.
-pub fn number_of(word: &str) -> Number {
-    match word.strip_prefix("0x") {
-        Some(behind) => digits(behind.as_bytes(), 16),
-        None => digits(word.as_bytes(), 10),
+pub fn number_of(word: &[u8]) -> Number {
+    match word.strip_prefix(b"0x") {
+        Some(behind) => digits(behind, 16),
+        None => digits(word, 10),
     }
 }
 
 // Whether a line of a script says nothing to run.
-pub fn is_remark(line: &str) -> bool {
-    line.is_empty() || line.starts_with('#')
+pub fn is_remark(line: &[u8]) -> bool {
+    line.is_empty() || line.starts_with(b"#")
 }

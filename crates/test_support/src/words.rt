@@ -24,7 +24,7 @@ pub struct Built {
 }
 
 // What the words of a text make of a record. A word that cannot be read does what can be read of it.
-pub fn build(record: &Record, words: &str) -> Built {
+pub fn build(record: &Record, words: &[u8]) -> Built {
     let mut built = Built {
         record: *record,
         keep: false,
@@ -41,44 +41,41 @@ pub fn build(record: &Record, words: &str) -> Built {
 
 impl Built {
     // The first word or text of what is left, and gives what follows it.
-    fn take_first<'a>(&mut self, left: &'a str) -> &'a str {
-        let Some(behind) = left.strip_prefix('"') else {
+    fn take_first<'a>(&mut self, left: &'a [u8]) -> &'a [u8] {
+        let Some(behind) = left.strip_prefix(b"\"") else {
             let (word, rest) = text::first_word(left);
             self.take(word);
             return rest;
         };
-        if let Some((text, rest)) = behind.split_once('"') {
-            self.put(text.as_bytes());
+        if let Some((text, rest)) = text::cut_at(behind, b'"') {
+            self.put(text);
             return rest;
         }
         // A text that does not end is an error.
-        self.put(behind.as_bytes());
+        self.put(behind);
         self.whole = false;
-        ""
+        b""
     }
 
-    // One word more. Between two spaces stands none.
-    fn take(&mut self, word: &str) {
-        if word.is_empty() {
-            return;
-        }
-        let (kind, digits) = word.split_at_checked(1).unwrap_or(("", word));
-        match kind {
-            "=" => self.keep = true,
-            "!" => self.start = true,
-            _ => self.take_number(kind, text::number_of(digits)),
+    // One word more. Between two spaces stands none, and one that begins with a zero byte says nothing.
+    fn take(&mut self, word: &[u8]) {
+        match word.split_first() {
+            None | Some((0, _)) => {}
+            Some((b'=', _)) => self.keep = true,
+            Some((b'!', _)) => self.start = true,
+            Some((kind, digits)) => self.take_number(*kind, text::number_of(digits)),
         }
     }
 
-    fn take_number(&mut self, kind: &str, n: Number) {
+    fn take_number(&mut self, kind: u8, n: Number) {
         self.whole &= n.whole;
         match kind {
-            "@" => self.at = n.value as usize,
-            "#" => self.record.resize(n.value as usize),
-            "b" => self.put_number(n.value, 1),
-            "w" => self.put_number(n.value, 2),
-            "d" => self.put_number(n.value, 4),
-            "q" => self.put_number(n.value, 8),
+            b'@' => self.at = n.value as usize,
+            b'#' => self.record.resize(n.value as usize),
+            b'b' => self.put_number(n.value, 1),
+            b'w' => self.put_number(n.value, 2),
+            b'd' => self.put_number(n.value, 4),
+            b'q' => self.put_number(n.value, 8),
             _ => self.whole = false,
         }
     }
