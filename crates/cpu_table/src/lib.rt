@@ -114,14 +114,14 @@ pub fn change_cpu(p: Cpu, how: CpuChange) -> Cpu
     }
 }
 
-// Changes the CPUs of a table that are in `set`.
+// Changes the CPUs of a table that are in `set`, one after the other: of the 64 a cell has few.
 pub fn change_cpus(set: u64, how: CpuChange, cpus: &mut [Cpu; MAX_CPUS])
     ensures { cpus.new ≡ change_cpus «set» (change_of how) cpus.old }
 {
-    for (k, p) in cpus.iter_mut().enumerate() {
-        if cpu_set::contains(set, k as u64) {
-            *p = change_cpu(*p, how);
-        }
+    let mut left = set;
+    while let Some(k) = first_cpu(left) {
+        cpus[k] = change_cpu(cpus[k], how);
+        left = cpu_set::without(left, id_set::single(k));
     }
 }
 

@@ -1,34 +1,34 @@
--- `cpu_table::change_cpus` meets its contract, by the loop's invariant. Assumes nothing.
-use Rattle.std.proofs.Common.{◌+◌, ◌<◌, List, length, sym, subst, ◌∙◌, arith}
-use Rattle.base.proofs.Lists.{Mapped, mapped-more, mapped-all}
-use Rattle.machine_state.specs.declared.Cpu.{Cpu}
-use Rattle.machine_state.specs.Machine.{cpu_in, past_cpu}
-use Rattle.rules.specs.Effects.{change_in, change_cpus}
+-- `cpu_table::change_cpus` meets its contract, by the loop's invariant: a member and then the rest are all. Assumes nothing.
+use Rattle.std.proofs.Common.{◌<◌, ℕ, arith, sym, ap, ◌∙◌, length-set}
+use Rattle.rules.specs.Effects.{change_cpus}
 use Rattle.cpu_table.specs.CpuTable.{change_of}
-use Rattle.cpu_table.proofs.Walk.{in-set, outside}
+use Rattle.cpu_table.proofs.Walk.{walk_none, walk_turn, walk-less}
 use Rattle.cpu_table.proofs.change_cpus.Goals as goal
-use Rattle.cpu_table.proofs.change_cpus.Goals.{then-contains, else-contains}
+
+pub offset_bounds-cpus-k : goal.offset_bounds-cpus-k
+offset_bounds-cpus-k c = let is = c.first_cpu.ensures.found _ c.in-Some.is in let inside : c.in-Some.k < 64 = is.0 in record { fits = omega (arith, inside) }
+
+pub bounds-cpus-k : goal.bounds-cpus-k
+bounds-cpus-k c = let is = c.first_cpu.ensures.found _ c.in-Some.is in is.0
+
+pub offset_bounds-cpus-k-in-Some : goal.offset_bounds-cpus-k-in-Some
+offset_bounds-cpus-k-in-Some c = let is = c.first_cpu.ensures.found _ c.in-Some.is in let inside : c.in-Some.k < 64 = is.0 in record { fits = omega (arith, inside) }
+
+pub bounds-cpus-k-in-Some : goal.bounds-cpus-k-in-Some
+bounds-cpus-k-in-Some c = let is = c.first_cpu.ensures.found _ c.in-Some.is in is.0
+
+pub loop-k-smaller : goal.loop-k-smaller
+loop-k-smaller c = let is = c.first_cpu.ensures.found _ c.in-Some.is in walk-less _ _ _ _ c.without-left.ensures c.single.ensures is.0 is.1
 
 pub loop-k-preserved : goal.loop-k-preserved
 loop-k-preserved c =
-    let these = c.args.set in
-    let change = change_of c.args.how in
-    let k = c.loop-k.k in
-    let now = c.loop-k.cpus in
-    let inside : k < length c.args.cpus.now = omega (arith, c.told-cpus, c.loop-k-test.true) in
-    elim c.if-contains.branch [
-      | then-contains w ↦
-          subst (λ (next : List Cpu). Mapped (change_in these change) past_cpu c.args.cpus.now (k + 1) next) (sym w.cpus-is)
-          (mapped-more (change_in these change) past_cpu c.args.cpus.now k now _ inside
-          (w.change_cpu.ensures ∙ sym (in-set these change k (cpu_in now k) (sym c.contains.ensures ∙ w.if-contains.true))) c.loop-k.invariant)
-      | else-contains w ↦
-          subst (λ (next : List Cpu). Mapped (change_in these change) past_cpu c.args.cpus.now (k + 1) next) (sym w.cpus-is)
-          (mapped-more (change_in these change) past_cpu c.args.cpus.now k now _ inside
-          (sym (outside these change k (cpu_in now k) (sym c.contains.ensures ∙ w.if-contains.false))) c.loop-k.invariant)
-    ]
+    let is = c.first_cpu.ensures.found _ c.in-Some.is in (
+      length-set c.loop-k.cpus c.in-Some.k _ ∙ c.loop-k.invariant.0,
+      walk_turn _ _ _ _ c.without-left.ensures c.single.ensures is.0 is.1 (change_of c.args.how) c.loop-k.cpus _ c.loop-k.invariant.0 c.change_cpu.ensures ∙ c.loop-k.invariant.1,
+    )
 
 pub returns : goal.returns
-unfolding change_cpus
 returns c =
-    mapped-all (change_in c.args.set (change_of c.args.how)) past_cpu c.args.cpus.now 64 c.loop-k.k c.loop-k.cpus c.told-cpus c.loop-k-test.false
-    c.loop-k.invariant
+    let change = change_of c.args.how in
+    let empty = c.first_cpu.ensures.none c.in_default.is in
+    sym (ap (λ (n : ℕ). change_cpus n change c.loop-k.cpus) empty ∙ walk_none change c.loop-k.cpus c.loop-k.invariant.0) ∙ c.loop-k.invariant.1
