@@ -13,7 +13,7 @@ unfolding region_at
 loop-i-preserved g c =
     let inside = c.loop-i-test.true in (
       length-set c.loop-i.table c.loop-i.i _ ∙ c.loop-i.invariant.0,
-      filled_more _ _ _ c.loop-i.table c.loop-i.invariant.0 c.loop-i.i _ (search rules) c.region_at.ensures c.loop-i.invariant.1,
+      filled_more _ _ _ c.loop-i.table c.loop-i.invariant.0 c.loop-i.i _ (search rules) (search rules) c.loop-i.invariant.1,
     )
 
 pub returns : goal.returns
