@@ -106,15 +106,25 @@ pub fn is_valid(boot: &SystemConfig, s: &[u8]) -> bool
     cell_form(s) && cell_valid(boot, &cell_record::cell_of(s))
 }
 
-// What the record itself makes Create answer.
+// Whether the record, whose values are `c`, has its form and keeps every rule in the booted system.
+fn has_valid(boot: &SystemConfig, s: &[u8], c: &CellConfig) -> bool
+    requires { c.now ≡ cell_of s.now }
+    ensures { result ≡ (cell_form s.now && cell_valid boot.now (cell_of s.now)) }
+{
+    let has_form = cell_form(s);
+    has_form && cell_valid(boot, c)
+}
+
+// What the record itself, whose values are `c`, makes Create answer.
 #[tactic(auto, using(base::proofs::Tests::told, crate::proofs::Laws::answer_long, crate::proofs::Laws::answer_invalid, crate::proofs::Laws::answer_accepted))]
-fn cell_answer(boot: &SystemConfig, s: &[u8]) -> Result<(), Errno>
+fn cell_answer(boot: &SystemConfig, s: &[u8], c: &CellConfig) -> Result<(), Errno>
+    requires { c.now ≡ cell_of s.now }
     ensures { code_of result ≡ cell_answer boot.now s.now }
 {
     if MAX_LENGTH < s.len() {
         return Err(Errno::TooBig);
     }
-    if !is_valid(boot, s) {
+    if !has_valid(boot, s, c) {
         return Err(Errno::Invalid);
     }
     Ok(())
@@ -126,8 +136,7 @@ fn cell_answer(boot: &SystemConfig, s: &[u8]) -> Result<(), Errno>
 pub fn read_cell(boot: &SystemConfig, s: &[u8]) -> CellRead
     ensures { result ≡ read_cell boot.now s.now }
 {
-    CellRead {
-        code: base::code_of(cell_answer(boot, s)),
-        config: cell_record::cell_of(s),
-    }
+    let config = cell_record::cell_of(s);
+    let code = base::code_of(cell_answer(boot, s, &config));
+    CellRead { code, config }
 }
