@@ -16,8 +16,8 @@ fn hex_digit(byte: u8) -> u8 {
     }
 }
 
-// Writes the HEX of a record behind what is written, as far as there is room. Not by a formatter, which
-// takes 20 times as long.
+// Writes the HEX of a record behind what is written, as far as there is room. Not by a formatter: a script
+// may name thousands of records, and one call of it for each byte is most of the run.
 pub fn put_record<const N: usize>(out: &mut ArrayVec<u8, N>, record: &Record) {
     for byte in record.bytes() {
         if out.is_full() {

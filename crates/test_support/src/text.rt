@@ -28,9 +28,9 @@ pub fn unended(line: &[u8]) -> &[u8] {
     line.strip_suffix(b"\n").unwrap_or(line)
 }
 
-// What stands before the first byte of a kind, and what behind it.
-pub fn cut_at(s: &[u8], at: u8) -> Option<(&[u8], &[u8])> {
-    let end = s.iter().position(|byte| *byte == at)?;
+// What stands before the first such byte, and what behind it.
+pub fn cut_at(s: &[u8], delimiter: u8) -> Option<(&[u8], &[u8])> {
+    let end = s.iter().position(|byte| *byte == delimiter)?;
     let (front, rest) = s.split_at_checked(end)?;
     Some((front, rest.get(1..)?))
 }
